@@ -1,0 +1,4 @@
+pub mod Ring
+pub mod Machine
+pub mod SumLaws
+pub mod Rises
