@@ -1,0 +1,5 @@
+pub mod Instance
+pub mod Cases
+pub mod Points
+pub mod Pieces
+pub mod Verdicts

@@ -1,0 +1,16 @@
+-- Pieces of the feasible set.
+use Rattle.std.specs.Prelude.{◌≡◌, List, length}
+use Rattle.nogoods.specs.declared.choice.Choice.{Choice}
+use Rattle.nogoods.specs.declared.choice.Side.{Side}
+use Rattle.nogoods.specs.Pieces.{IsChoiceOf}
+use Rattle.lpcc_case.specs.Instance.{Instance, chosen}
+use Rattle.lpcc_case.specs.Points.{Point, MeetsAll, IsTight}
+
+-- one side for each pair
+abbrev pub IsPiece : Instance → List Side → Type 0
+IsPiece a sides = length sides ≡ length a.pairs
+
+-- all constraints are met, and the chosen side of each pair is tight
+pub record LiesIn (a : Instance) (sides : List Side) (p : Point a.columns) : Type 0 where
+  pub met : MeetsAll a p
+  pub tight : (c : Choice) → IsChoiceOf sides c → IsTight p (chosen a c)

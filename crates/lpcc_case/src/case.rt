@@ -1,0 +1,101 @@
+//! The case of a deck: cost, constraints and pairs over whole numbers.
+ghost use Rattle.std.specs.Prelude.{◌≡◌};
+ghost use Rattle.lpcc_case.specs.Cases.{IsCase, instance_of};
+
+use crate::Constraint;
+use lp_base::Sequence;
+use std::marker::Model;
+
+/// An instance with the limits that keep every sum of a test below 2^127. Contracts see it as
+/// its parts.
+#[derive(Drop)]
+pub struct Case {
+    columns: u32,
+    cost: Sequence<i64>,
+    scale: i64,
+    offset: i64,
+    constraints: Sequence<Constraint>,
+    pairs: Sequence<(u32, u32)>,
+}
+
+impl Model for Case {
+    ghost use Rattle.lpcc_case.specs.Instance.{Instance};
+
+    ghost Value = { Instance };
+
+    ghost use Rattle.lpcc_case.specs.Cases.{IsCase, instance_of};
+
+    ghost view = { λ c. instance_of c.columns c.cost c.scale c.offset c.constraints c.pairs };
+
+    ghost invariant = { λ c. IsCase (instance_of c.columns c.cost c.scale c.offset c.constraints c.pairs) };
+}
+
+impl Case {
+    /// The case of these parts: as many costs as columns, a scale of at least 1, terms whose
+    /// columns ascend, pairs of two inequalities, and all numbers within the limits.
+    pub fn of_parts(
+        columns: u32,
+        cost: Sequence<i64>,
+        scale: i64,
+        offset: i64,
+        constraints: Sequence<Constraint>,
+        pairs: Sequence<(u32, u32)>,
+    ) -> Case
+        requires { IsCase (instance_of columns cost scale offset constraints pairs) }
+        ensures { result ≡ instance_of columns cost scale offset constraints pairs }
+    {
+        Case {
+            columns,
+            cost,
+            scale,
+            offset,
+            constraints,
+            pairs,
+        }
+    }
+
+    /// The number of columns.
+    pub fn columns(&self) -> u32
+        ensures { result ≡ self.now.columns }
+    {
+        self.columns
+    }
+
+    /// The cost of each column.
+    pub fn cost(&self) -> &[i64]
+        ensures list { result.now ≡ self.now.cost }
+        ensures kept { IsCase self.now }
+    {
+        self.cost.as_slice()
+    }
+
+    /// What the cost was multiplied by to make it whole, at least 1.
+    pub fn scale(&self) -> i64
+        ensures { result ≡ self.now.scale }
+    {
+        self.scale
+    }
+
+    /// The constant of the objective, times the scale.
+    pub fn offset(&self) -> i64
+        ensures { result ≡ self.now.offset }
+    {
+        self.offset
+    }
+
+    /// The constraints, counted from 0.
+    pub fn constraints(&self) -> &[Constraint]
+        ensures list { result.now ≡ self.now.constraints }
+        ensures kept { IsCase self.now }
+    {
+        self.constraints.as_slice()
+    }
+
+    /// The pairs, each with the numbers of two inequalities, side A first.
+    pub fn pairs(&self) -> &[(u32, u32)]
+        ensures list { result.now ≡ self.now.pairs }
+        ensures kept { IsCase self.now }
+    {
+        self.pairs.as_slice()
+    }
+}

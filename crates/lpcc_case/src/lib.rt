@@ -1,0 +1,9 @@
+//! The instance that is solved: a linear program with complementarity constraints over whole
+//! numbers, and what it means for a point to be feasible and for a verdict to be true.
+#![tactic(auto)]
+
+mod case;
+mod constraint;
+
+pub use case::Case;
+pub use constraint::{Constraint, Kind};

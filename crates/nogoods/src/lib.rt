@@ -1,0 +1,10 @@
+//! Choices of a zero member for each pair, no-goods and pieces.
+#![tactic(auto)]
+
+mod choice;
+mod no_good;
+mod piece;
+
+pub use choice::{Choice, Side};
+pub use no_good::NoGood;
+pub use piece::{Piece, bars, barred_by_each_choice, order_is_irreflexive, order_is_transitive};
