@@ -1,0 +1,7 @@
+//! Fractions in lowest terms, decimal texts, the greatest common divisor and the exact order of
+//! quotients. No call takes memory.
+#![tactic(auto)]
+
+mod divisors;
+
+pub use divisors::gcd;
