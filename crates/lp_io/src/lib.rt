@@ -1,0 +1,13 @@
+//! Where bytes come from and where they go: sources and sinks that count their faults, in memory
+//! and over standard input and output, with reading to the end and writing of a whole text.
+#![tactic(auto)]
+
+mod put;
+mod sink;
+mod source;
+mod take;
+
+pub use put::put_all;
+pub use sink::Sink;
+pub use source::{Failed, Source};
+pub use take::{TakeFault, take_all};
