@@ -12,10 +12,6 @@ instance_of columns cost scale offset constraints pairs = record { columns = col
 abbrev pub FitsCase : ℤ → Type 0
 FitsCase z = unsigned_abs z ≤ 2 ^ 52
 
--- at most 2^63 - 1 in size
-abbrev pub IsNarrow : ℤ → Type 0
-IsNarrow z = unsigned_abs z < 2 ^ 63
-
 abbrev pub column_of : ℕ × ℤ → ℕ
 column_of t = t.0
 

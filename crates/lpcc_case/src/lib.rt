@@ -4,6 +4,8 @@
 
 mod case;
 mod constraint;
+mod form;
 
 pub use case::Case;
 pub use constraint::{Constraint, Kind};
+pub use form::Form;

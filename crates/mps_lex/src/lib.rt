@@ -1,0 +1,2 @@
+//! Lines, heads and fields of a deck text.
+#![tactic(auto)]
