@@ -1,6 +1,6 @@
 -- Known bytes that move in two pieces, one behind the other.
-use Rattle.std.proofs.Common.{ℕ, ◌+◌, ◌-◌, ◌≤◌, ◌<◌, arith, List, ◌++◌, length, take, drop, length-append, length-take-le, Option, subst, sym, take-add}
-use Rattle.std.proofs.lemmas.List.{take_rest}
+use Rattle.std.proofs.Common.{ℕ, ◌+◌, ◌-◌, ◌≤◌, ◌<◌, ◌≡◌, arith, List, [], ◌++◌, length, take, drop, length-append, length-drop, Option, subst, sym, ap, take-add, min, take-append-drop}
+use Rattle.std.proofs.lemmas.List.{take_rest, drop-drop, drop_all, length-take-le}
 use Rattle.std.proofs.KnownBytes.{Appends-trans, Consumes-trans}
 use Rattle.std.specs.Io.KnownBytes.{Appends, Consumes}
 
@@ -23,3 +23,10 @@ reads_within a b c taken into count limit P refute h k room short within =
     let piece = take count into in
     let fits : length (taken ++ piece) ≤ limit = omega (arith, length-append taken piece, length-take-le count into within) in
     (taken ++ piece, Consumes-trans a b c taken piece h k, (λ p. absurd (refute p), λ long. absurd (omega arith)))
+
+-- a read that copies the front of what is left, as far as the step and the buffer reach
+pub reads_front : (bytes rest into : List ℕ) (place step count : ℕ) → rest ≡ drop place bytes → 1 ≤ step → count ≡ min step (min (length rest) (length into)) → take count into ≡ take count rest → (drop place bytes ≡ take count into ++ drop (place + count) bytes) × (count ≡ 0 → 0 < length into → drop (place + count) bytes ≡ [])
+reads_front bytes rest into place step count is moves least front =
+    let split : drop place bytes ≡ take count into ++ drop (place + count) bytes =
+    rw (front, is, ← drop-drop count place bytes) (sym (take-append-drop count (drop place bytes))) in
+    (split, λ none room. drop_all (place + count) bytes (omega (arith, ap length is, length-drop place bytes)))
