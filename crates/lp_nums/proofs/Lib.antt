@@ -1,1 +1,2 @@
 pub mod GcdLaws
+pub mod OrderLaws

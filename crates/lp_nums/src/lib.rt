@@ -3,5 +3,7 @@
 #![tactic(auto)]
 
 mod divisors;
+mod order;
 
 pub use divisors::gcd;
+pub use order::compare;

@@ -1,4 +1,4 @@
-use Rattle.std.proofs.Common.{sym, subst, ℤ, arith, to_z, pos, ◌≤ℤ◌}
+use Rattle.std.proofs.Common.{sym, subst, ℤ, arith}
 use Rattle.std.specs.Prelude.{unsigned_abs}
 use Rattle.std.specs.Int.{IsGcd, w128}
 use Rattle.std.proofs.lemmas.Int.{ints, to_z_pos}

@@ -1,4 +1,4 @@
-use Rattle.std.proofs.Common.{ℕ, ◌+◌, ◌-◌, ◌%◌, ◌<◌, ◌≤◌, ◌≡◌, refl, sym, ap, subst, ◌∙◌, arith}
+use Rattle.std.proofs.Common.{ℕ, ◌%◌, ◌≡◌, sym, ap, subst, ◌∙◌, arith}
 use Rattle.std.specs.Int.{IsGcd, trailing_zeros, w64}
 use Rattle.std.proofs.lemmas.Nat.Gcd.{IsGcd-from_sub}
 use Rattle.lp_nums.proofs.GcdLaws.{IsGcd-shift_first, IsGcd-from_lower, IsGcd-of_same}

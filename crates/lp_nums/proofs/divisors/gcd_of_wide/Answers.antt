@@ -1,4 +1,4 @@
-use Rattle.std.proofs.Common.{◌*◌, ◌^◌, ◌<◌, ◌≤◌, arith}
+use Rattle.std.proofs.Common.{◌*◌, ◌^◌, arith}
 use Rattle.std.specs.Int.{trailing_zeros, w128}
 use Rattle.lp_nums.proofs.GcdLaws.{IsGcd-from_odd_parts, IsGcd-in_width}
 use Rattle.lp_nums.proofs.divisors.gcd_of_wide.Goals as goal
