@@ -2,7 +2,7 @@
 use Rattle.std.specs.Prelude.{◌≡◌, List, length}
 use Rattle.nogoods.specs.declared.choice.Choice.{Choice}
 use Rattle.nogoods.specs.declared.choice.Side.{Side}
-use Rattle.nogoods.specs.Pieces.{IsChoiceOf}
+use Rattle.nogoods.specs.Pieces.{IsChoiceOf, Bars}
 use Rattle.lpcc_case.specs.Instance.{Instance, chosen}
 use Rattle.lpcc_case.specs.Points.{Point, MeetsAll, IsTight}
 
@@ -14,3 +14,11 @@ IsPiece a sides = length sides ≡ length a.pairs
 pub record LiesIn (a : Instance) (sides : List Side) (p : Point a.columns) : Type 0 where
   pub met : MeetsAll a p
   pub tight : (c : Choice) → IsChoiceOf sides c → IsTight p (chosen a c)
+
+-- no point lies in the piece
+abbrev pub HoldsNoPoint : Instance → List Side → Type 0
+HoldsNoPoint a sides = (p : Point a.columns) → LiesIn a sides p → ⊥
+
+-- every piece that the no-good bars is without points
+abbrev pub BarsOnlyEmptyPieces : Instance → List Choice → Type 0
+BarsOnlyEmptyPieces a no_good = (sides : List Side) → IsPiece a sides → Bars no_good sides → HoldsNoPoint a sides

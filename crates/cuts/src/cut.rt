@@ -1,0 +1,35 @@
+//! Cuts and what may be wrong with one.
+use lp_base::Sequence;
+use nogoods::NoGood;
+use thiserror::Error;
+
+/// A no-good with its reason, multipliers on constraints whose numbers, counted from 0, ascend.
+#[derive(Drop)]
+pub enum Cut {
+    /// The weighed sum of the constraints is 0 >= b with b above 0: an extreme ray of the dual.
+    Ray {
+        ng: NoGood,
+        mult: Sequence<(u32, i64)>,
+    },
+    /// The weighed sum of the constraints is `e` times the cost, at least `v`: a dual point, whose
+    /// bound is `v / e`.
+    Point {
+        ng: NoGood,
+        mult: Sequence<(u32, i64)>,
+        e: i64,
+        v: i128,
+    },
+}
+
+/// What the test of a cut finds first.
+#[derive(Clone, Copy, Debug, Drop, Error, PartialEq, Eq)]
+pub enum CutFault {
+    #[error("a multiplier or a choice is out of place")]
+    Index,
+    #[error("a negative multiplier stands on an inequality that is not chosen")]
+    Sign,
+    #[error("the weighed coefficients are not as they should be")]
+    Sum,
+    #[error("the weighed right sides are not as they should be")]
+    Bound,
+}

@@ -1,0 +1,2 @@
+pub mod HintRuns
+pub mod Logs

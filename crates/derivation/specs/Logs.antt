@@ -1,0 +1,31 @@
+-- Logs: no-goods that are known, and no-goods that follow from those before them.
+use Rattle.std.specs.Prelude.{◌≡◌, ◌<◌, ℕ, true, List, All, Some, length, map, slice_get, take}
+use Rattle.nogoods.specs.declared.choice.Choice.{Choice}
+use Rattle.lpcc_case.specs.Instance.{Instance}
+use Rattle.lpcc_case.specs.Pieces.{BarsOnlyEmptyPieces}
+use Rattle.derivation.specs.declared.step.Step.{Step}
+use Rattle.derivation.specs.declared.step.Step.TheVariants.{Start, Derived}
+use Rattle.derivation.specs.HintRuns.{closes}
+
+abbrev pub no_good_of : Step → List Choice
+no_good_of (Start ng) = ng
+no_good_of (Derived ng hints) = ng
+
+abbrev pub no_goods : List Step → List (List Choice)
+no_goods log = map no_good_of log
+
+abbrev pub NamesPairs : Instance → List Choice → Type 0
+NamesPairs a ng = All (λ c. c.pair < length a.pairs) ng
+
+-- the step follows from the no-goods before it
+abbrev pub Follows : List (List Choice) → Step → Type 0
+Follows earlier (Start ng) = Unit {0}
+Follows earlier (Derived ng hints) = closes earlier ng hints ≡ true
+
+-- each derived step follows from the steps before it
+abbrev pub IsLog : List Step → Type 0
+IsLog log = (k : ℕ) (step : Step) → slice_get log k ≡ Some step → Follows (no_goods (take k log)) step
+
+-- each starting no-good bars only pieces without points
+abbrev pub StartsAreTrue : Instance → List Step → Type 0
+StartsAreTrue a log = (k : ℕ) (ng : List Choice) → slice_get log k ≡ Some (Start ng) → BarsOnlyEmptyPieces a ng

@@ -1,0 +1,11 @@
+//! The steps of a log.
+use lp_base::Sequence;
+use nogoods::NoGood;
+
+/// A no-good that is known, or one that follows, with its hints: the numbers, counted from 0, of
+/// the earlier steps over which its unit propagation runs.
+#[derive(Drop)]
+pub enum Step {
+    Start(NoGood),
+    Derived(NoGood, Sequence<u64>),
+}
