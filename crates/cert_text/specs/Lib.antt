@@ -1,1 +1,2 @@
 pub mod Certs
+pub mod Spelling
