@@ -2,16 +2,21 @@
 //! and over standard input and output, with reading to the end and writing of a whole text.
 #![tactic(auto)]
 
-mod memory;
+mod mem_sink;
+mod mem_source;
 mod put;
 mod sink;
 mod source;
 mod standard;
 mod take;
 
-pub use memory::{MemSink, MemSource};
+pub use mem_sink::MemSink;
+pub use mem_source::MemSource;
 pub use put::put_all;
 pub use sink::Sink;
 pub use source::{Failed, Source};
 pub use standard::{StdSink, StdSource};
 pub use take::{TakeFault, take_all};
+
+#[cfg(test)]
+mod tests;

@@ -38,7 +38,8 @@ impl<R: Read + Drop> Source for StdSource<R> {
     fn read(&mut self, into: &mut [u8]) -> Result<usize, Failed>
         ensures within { IfOk result (λ n. n ≤ length into.new) }
         ensures counted { CountsFaults self.old.faults self.new.faults result }
-        ensures exact { self.new.faults ≡ (if is_ok result then self.old.faults else one_more self.old.faults) }
+        ensures exact { self.new.faults ≡
+            (if is_ok result then self.old.faults else one_more self.old.faults) }
     {
         if let Ok(count) = self.input.read(into) {
             return Ok(count);
@@ -68,7 +69,8 @@ impl<W: Write + Drop> Sink for StdSink<W> {
         ensures within { IfOk result (λ n. n ≤ length piece.now) }
         ensures some { 0 < length piece.now → IfOk result (λ n. 0 < n) }
         ensures counted { CountsFaults self.old.faults self.new.faults result }
-        ensures exact { self.new.faults ≡ (if is_ok result then self.old.faults else one_more self.old.faults) }
+        ensures exact { self.new.faults ≡
+            (if is_ok result then self.old.faults else one_more self.old.faults) }
     {
         if let Ok(count) = self.output.write(piece) {
             if count > 0 || piece.is_empty() {

@@ -1,7 +1,7 @@
 use Rattle.std.proofs.Common.{ap, ◌∙◌, drop}
 use Rattle.std.proofs.lemmas.List.{take_rest}
 use Rattle.lp_io.proofs.Moves.{reads_front}
-use Rattle.lp_io.proofs.memory.MemSourceSource.read.Goals as goal
+use Rattle.lp_io.proofs.mem_source.MemSourceSource.read.Goals as goal
 
 pub returns-clause-taken : goal.returns-clause-taken
 returns-clause-taken c =
