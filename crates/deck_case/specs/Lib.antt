@@ -1,0 +1,2 @@
+pub mod DeckCases
+pub mod Faults
