@@ -1,2 +1,3 @@
 pub mod GcdLaws
 pub mod OrderLaws
+pub mod FractionLaws

@@ -3,7 +3,11 @@
 #![tactic(auto)]
 
 mod divisors;
+mod fractions;
+mod laws;
 mod order;
 
 pub use divisors::gcd;
+pub use fractions::Frac;
+pub use laws::{lowest_terms_are_unique, reducing_keeps_the_value};
 pub use order::compare;
