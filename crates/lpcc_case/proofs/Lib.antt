@@ -1,0 +1,4 @@
+pub mod Order
+pub mod Multiples
+pub mod PieceLaws
+pub mod VerdictLaws

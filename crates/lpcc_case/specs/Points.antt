@@ -1,5 +1,5 @@
 -- Points with a denominator, and what they meet. Every fraction is multiplied out, so all numbers are whole.
-use Rattle.std.specs.Prelude.{◌≡◌, ◌<◌, ℕ, ℤ, pos, ◌*ℤ◌, ◌≤ℤ◌, ◌<ℤ◌, List, All, ◌⊎◌, length, slice_index_or}
+use Rattle.std.specs.Prelude.{◌≡◌, ◌<◌, ◌*◌, ℕ, ℤ, pos, ◌*ℤ◌, ◌≤ℤ◌, ◌<ℤ◌, List, All, ◌⊎◌, length, map, slice_index_or}
 use Rattle.lp_base.specs.Sums.{sum_over, dot}
 use Rattle.nogoods.specs.declared.choice.Choice.{Choice}
 use Rattle.lpcc_case.specs.declared.constraint.Constraint.{Constraint}
@@ -55,3 +55,8 @@ pub record Recedes (a : Instance) (choices : List Choice) (r : List ℤ) : Type 
   pub keeps : All (λ c. Relates c.kind (left_side c.terms r) (pos 0)) a.constraints
   pub stays : All (λ c. left_side (chosen a c).terms r ≡ pos 0) choices
   pub falls : dot a.cost r <ℤ pos 0
+
+-- q has each number of p times k, its denominator too, so it means the same point
+pub record IsMultiple {n : ℕ} (k : ℕ) (p q : Point n) : Type 0 where
+  pub numbers : q.x ≡ map (λ z. pos k *ℤ z) p.x
+  pub denominator : q.d ≡ k * p.d

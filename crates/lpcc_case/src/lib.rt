@@ -5,7 +5,12 @@
 mod case;
 mod constraint;
 mod form;
+mod laws;
 
 pub use case::Case;
 pub use constraint::{Constraint, Kind};
 pub use form::Form;
+pub use laws::{
+    feasible_exactly_in_a_piece, lower_is_irreflexive, lower_is_transitive,
+    multiples_meet_the_same, optimal_value_is_unique, verdicts_exclude_each_other,
+};

@@ -23,4 +23,3 @@ precedes-trans (B ∷ a) (A ∷ b) (A ∷ c) h k = absurd (cc)
 precedes-trans (B ∷ a) (A ∷ b) (B ∷ c) h k = absurd (cc)
 precedes-trans (B ∷ a) (B ∷ b) (A ∷ c) h k = absurd (cc)
 precedes-trans (B ∷ a) (B ∷ b) (B ∷ c) h k = precedes-trans a b c h k
-

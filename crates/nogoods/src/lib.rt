@@ -7,4 +7,4 @@ mod piece;
 
 pub use choice::{Choice, Side};
 pub use no_good::NoGood;
-pub use piece::{Piece, bars, barred_by_each_choice, order_is_irreflexive, order_is_transitive};
+pub use piece::{Piece, barred_by_each_choice, bars, order_is_irreflexive, order_is_transitive};

@@ -1,0 +1,44 @@
+//! Laws that show that the definitions mean what they should.
+ghost use Rattle.std.specs.Prelude.{◌≡◌, ◌↔◌, ◌≤ℤ◌, ◌*ℤ◌, ℕ, ℤ, List, pos, true};
+ghost use Rattle.nogoods.specs.declared.choice.Side.{Side as Member};
+ghost use Rattle.lpcc_case.specs.declared.constraint.Constraint.{Constraint as Relation};
+ghost use Rattle.lpcc_case.specs.Instance.{Instance};
+ghost use Rattle.lpcc_case.specs.Points.{Point, Meets, MeetsAll, IsTight, IsFeasible, IsLower, IsMultiple};
+ghost use Rattle.lpcc_case.specs.Pieces.{IsPiece, LiesIn};
+ghost use Rattle.lpcc_case.specs.Verdicts.{IsOptimal, IsInfeasible, IsUnbounded};
+
+/// No point is lower than itself.
+pub fn lower_is_irreflexive()
+    ensures { (a : Instance) (p : Point a.columns) → IsLower a p p → ⊥ }
+{}
+
+/// Lower than a point that is lower than another is lower than that one.
+pub fn lower_is_transitive()
+    ensures { (a : Instance) (p q r : Point a.columns) → IsLower a p q → IsLower a q r → IsLower a p r }
+{}
+
+/// Which constraints a point meets, and at which it is tight, does not change where all its
+/// numbers, the denominator with them, are multiplied by a whole number of at least 1.
+pub fn multiples_meet_the_same()
+    ensures meets { (n k : ℕ) (c : Relation) (p q : Point n) → IsMultiple k p q → Meets q c ↔ Meets p c }
+    ensures tight { (n k : ℕ) (c : Relation) (p q : Point n) → IsMultiple k p q → IsTight q c ↔ IsTight p c }
+{}
+
+/// A point is feasible exactly where it lies in some piece.
+pub fn feasible_exactly_in_a_piece()
+    ensures { (a : Instance) (p : Point a.columns) →
+        IsFeasible a p ↔ ((sides : List Member) × IsPiece a sides × LiesIn a sides p) }
+{}
+
+/// Two true optimal verdicts have the same value, as fractions.
+pub fn optimal_value_is_unique()
+    ensures { (a : Instance) (n m : ℤ) (d e : ℕ) → pos 1 ≤ℤ a.scale →
+        IsOptimal a n d → IsOptimal a m e → (n *ℤ pos e) ≡ (m *ℤ pos d) }
+{}
+
+/// No two different verdicts are true of one instance.
+pub fn verdicts_exclude_each_other()
+    ensures optimal_or_infeasible { (a : Instance) (n : ℤ) (d : ℕ) → IsOptimal a n d → IsInfeasible a → ⊥ }
+    ensures optimal_or_unbounded { (a : Instance) (n : ℤ) (d : ℕ) → IsOptimal a n d → IsUnbounded a → ⊥ }
+    ensures infeasible_or_unbounded { (a : Instance) → IsInfeasible a → IsUnbounded a → ⊥ }
+{}
