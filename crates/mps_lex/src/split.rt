@@ -1,0 +1,88 @@
+//! How a text falls into pieces, and a piece into fields.
+ghost use Rattle.std.specs.Prelude.{◌≡◌, ◌<◌, ◌≤◌, ◌+◌, ◌++◌, ◌∷◌, ◌==◌, not, IfOk, map, length};
+ghost use Rattle.std.specs.List.{prefix_len};
+ghost use Rattle.mps_lex.specs.Lines.{pieces, ends_with, without_end};
+ghost use Rattle.mps_lex.specs.Kinds.{is_blank, fields};
+ghost use Rattle.mps_lex.specs.Shown.{shown};
+
+use std::alloc::{AllocError, Global};
+
+/// A space or a tab.
+pub fn is_blank(byte: u8) -> bool
+    ensures { result ≡ is_blank byte }
+{
+    byte == b' ' || byte == b'\t'
+}
+
+// How many bytes stand before the first LF.
+fn line_len(text: &[u8]) -> usize
+    ensures len { result ≡ prefix_len (λ b. not (b == 10)) text.now }
+    ensures within { result ≤ length text.now }
+{
+    let mut at = 0;
+    while at < text.len() && text[at] != b'\n' {
+        at += 1;
+    }
+    at
+}
+
+// How many bytes stand before the first blank.
+fn run_len(text: &[u8]) -> usize
+    ensures len { result ≡ prefix_len (λ b. not (is_blank b)) text.now }
+    ensures within { result ≤ length text.now }
+{
+    let mut at = 0;
+    while at < text.len() && !is_blank(text[at]) {
+        at += 1;
+    }
+    at
+}
+
+/// The first piece of a text that has bytes, its LF with it, and what stands behind it.
+pub fn first_piece(text: &[u8]) -> (&[u8], &[u8])
+    requires { 0 < length text.now }
+    ensures pieces { pieces text.now ≡ result.0.now ∷ pieces result.1.now }
+    ensures parts { length result.0.now + length result.1.now ≡ length text.now }
+    ensures some { 0 < length result.0.now }
+{
+    let len = line_len(text);
+    if len < text.len() {
+        return text.split_at(len + 1);
+    }
+    text.split_at(len)
+}
+
+/// Whether this byte is the last.
+pub fn ends_with(byte: u8, text: &[u8]) -> bool
+    ensures { result ≡ ends_with byte text.now }
+{
+    !text.is_empty() && text[text.len() - 1] == byte
+}
+
+/// The text without its last byte, where that is this byte.
+pub fn without_end(byte: u8, text: &[u8]) -> &[u8]
+    ensures { result.now ≡ without_end byte text.now }
+{
+    if !text.is_empty() && text[text.len() - 1] == byte {
+        return &text[..text.len() - 1];
+    }
+    text
+}
+
+/// The longest runs of bytes that are no blanks.
+pub fn fields_of<'a>(alloc: Global, text: &'a [u8]) -> Result<Vec<&'a [u8]>, AllocError>
+    ensures { IfOk result (λ v. map shown v.items ≡ fields text.now) }
+{
+    let mut found = Vec::new(alloc);
+    let mut rest = text;
+    while !rest.is_empty() {
+        if is_blank(rest[0]) {
+            rest = &rest[1..];
+        } else {
+            let (field, after) = rest.split_at(run_len(rest));
+            found.push(field)?;
+            rest = after;
+        }
+    }
+    Ok(found)
+}
