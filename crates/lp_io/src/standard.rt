@@ -1,5 +1,6 @@
 //! The readers and writers of std as a source and as a sink. They tell no bytes.
 ghost use Rattle.std.specs.Prelude.{◌≡◌, ◌≤◌, ◌<◌, if◌then◌else◌, is_ok, IfOk, length};
+ghost use Rattle.std.specs.Io.KnownBytes.{ReadConsumes, WriteAppends};
 ghost use Rattle.lp_io.specs.Faults.{CountsFaults, one_more};
 
 use crate::{Failed, Sink, Source};
@@ -8,21 +9,22 @@ use std::io::{Read, Write};
 /// A reader of std, as standard input is, with a count of its errors.
 #[derive(Drop)]
 pub struct StdSource<R: Read + Drop> {
-    input: R,
+    pub input: R,
     pub faults: u64,
 }
 
 /// A writer of std, as standard output is, with a count of its errors.
 #[derive(Drop)]
 pub struct StdSink<W: Write + Drop> {
-    output: W,
+    pub output: W,
     pub faults: u64,
 }
 
 impl<R: Read + Drop> StdSource<R> {
     /// A source over the reader. It takes no memory.
     pub fn over(input: R) -> StdSource<R>
-        ensures { result.faults ≡ 0 }
+        ensures input { result.input ≡ input }
+        ensures faults { result.faults ≡ 0 }
     {
         StdSource { input, faults: 0 }
     }
@@ -37,6 +39,8 @@ impl<R: Read + Drop> Source for StdSource<R> {
 
     fn read(&mut self, into: &mut [u8]) -> Result<usize, Failed>
         ensures within { IfOk result (λ n. n ≤ length into.new) }
+        ensures passed { ReadConsumes (R.remaining self.old.input) (R.remaining self.new.input)
+            result into.new }
         ensures counted { CountsFaults self.old.faults self.new.faults result }
         ensures exact { self.new.faults ≡
             (if is_ok result then self.old.faults else one_more self.old.faults) }
@@ -52,7 +56,8 @@ impl<R: Read + Drop> Source for StdSource<R> {
 impl<W: Write + Drop> StdSink<W> {
     /// A sink over the writer. It takes no memory.
     pub fn over(output: W) -> StdSink<W>
-        ensures { result.faults ≡ 0 }
+        ensures output { result.output ≡ output }
+        ensures faults { result.faults ≡ 0 }
     {
         StdSink { output, faults: 0 }
     }
@@ -68,6 +73,8 @@ impl<W: Write + Drop> Sink for StdSink<W> {
     fn write(&mut self, piece: &[u8]) -> Result<usize, Failed>
         ensures within { IfOk result (λ n. n ≤ length piece.now) }
         ensures some { 0 < length piece.now → IfOk result (λ n. 0 < n) }
+        ensures passed { WriteAppends (W.contents self.old.output) (W.contents self.new.output)
+            result piece.now }
         ensures counted { CountsFaults self.old.faults self.new.faults result }
         ensures exact { self.new.faults ≡
             (if is_ok result then self.old.faults else one_more self.old.faults) }

@@ -70,3 +70,16 @@ fn counts_rest(rt: HostRuntime) -> Result<(), Fail> {
     assert_eq!(rt; source.calls, u64::MAX);
     Ok(())
 }
+
+// Bytes of std's reader come, and go to std's writer as far as it takes them.
+#[test]
+fn adapts(rt: HostRuntime) -> Result<(), Fail> {
+    let mut source = StdSource::over(b"abc".as_slice());
+    let taken = take_all(rt.alloc(), &mut source, 3)?;
+    let mut room = [0; 2];
+    let mut sink = StdSink::over(room.as_mut_slice());
+    assert_eq!(rt; put_all(&mut sink, &taken), Err(Failed));
+    assert_eq!(rt; (source.faults, sink.faults), (0, 1));
+    assert_eq!(rt; room.as_slice(), b"ab".as_slice());
+    Ok(())
+}
