@@ -1,8 +1,12 @@
 -- Unit propagation over a list of hints. Choices are assumed, to derive that they cannot be kept together.
-use Rattle.std.specs.Prelude.{ℕ, Bool, true, false, not, ◌&&◌, nat_lt, if◌then◌else◌, List, [], ◌∷◌, length, slice_index_or}
+use Rattle.std.specs.Prelude.{◌<◌, ℕ, All, Bool, true, false, not, ◌&&◌, nat_lt, if◌then◌else◌, List, [], ◌∷◌, length, slice_index_or}
 use Rattle.std.specs.List.{list_any}
 use Rattle.nogoods.specs.declared.choice.Choice.{Choice}
 use Rattle.nogoods.specs.Choices.{same_choice, other}
+
+-- each pair number is below 512
+abbrev pub NamesFewPairs : List Choice → Type 0
+NamesFewPairs ng = All (λ c. c.pair < 512) ng
 
 abbrev pub is_assumed : List Choice → Choice → Bool
 is_assumed assumed c = list_any (λ d. same_choice d c) assumed

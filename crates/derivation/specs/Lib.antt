@@ -1,2 +1,3 @@
 pub mod HintRuns
+pub mod Flags
 pub mod Logs
