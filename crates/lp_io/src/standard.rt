@@ -1,4 +1,4 @@
-//! The readers and writers of std as a source and as a sink. They tell no bytes.
+//! The readers and writers of std as a source and as a sink, which tell no bytes of their own.
 ghost use Rattle.std.specs.Prelude.{◌≡◌, ◌≤◌, ◌<◌, if◌then◌else◌, is_ok, IfOk, length};
 ghost use Rattle.std.specs.Io.KnownBytes.{ReadConsumes, WriteAppends};
 ghost use Rattle.lp_io.specs.Faults.{CountsFaults, one_more};
@@ -39,8 +39,12 @@ impl<R: Read + Drop> Source for StdSource<R> {
 
     fn read(&mut self, into: &mut [u8]) -> Result<usize, Failed>
         ensures within { IfOk result (λ n. n ≤ length into.new) }
+
+        // The reader's own bytes, where it tells them.
         ensures passed { ReadConsumes (R.remaining self.old.input) (R.remaining self.new.input)
             result into.new }
+
+        // The count rises at each failure, and rests at its last value.
         ensures counted { CountsFaults self.old.faults self.new.faults result }
         ensures exact { self.new.faults ≡
             (if is_ok result then self.old.faults else one_more self.old.faults) }
@@ -73,8 +77,12 @@ impl<W: Write + Drop> Sink for StdSink<W> {
     fn write(&mut self, piece: &[u8]) -> Result<usize, Failed>
         ensures within { IfOk result (λ n. n ≤ length piece.now) }
         ensures some { 0 < length piece.now → IfOk result (λ n. 0 < n) }
+
+        // The writer's own bytes, where it tells them.
         ensures passed { WriteAppends (W.contents self.old.output) (W.contents self.new.output)
             result piece.now }
+
+        // The count rises at each failure, and rests at its last value.
         ensures counted { CountsFaults self.old.faults self.new.faults result }
         ensures exact { self.new.faults ≡
             (if is_ok result then self.old.faults else one_more self.old.faults) }
