@@ -1,0 +1,5 @@
+pub mod Rising
+pub mod RowSteps
+pub mod ColumnSteps
+pub mod CostSteps
+pub mod CaseFacts
