@@ -4,9 +4,9 @@ use Rattle.std.specs.List.{list_any}
 use Rattle.nogoods.specs.declared.choice.Choice.{Choice}
 use Rattle.nogoods.specs.Choices.{same_choice, other}
 
--- each pair number is below 512
-abbrev pub NamesFewPairs : List Choice → Type 0
-NamesFewPairs ng = All (λ c. c.pair < 512) ng
+-- each pair number is below this
+abbrev pub NamesBelow : ℕ → List Choice → Type 0
+NamesBelow pairs choices = All (λ c. c.pair < pairs) choices
 
 abbrev pub is_assumed : List Choice → Choice → Bool
 is_assumed assumed c = list_any (λ d. same_choice d c) assumed

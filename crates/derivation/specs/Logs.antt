@@ -1,11 +1,13 @@
 -- Logs: no-goods that are known, and no-goods that follow from those before them.
-use Rattle.std.specs.Prelude.{◌≡◌, ◌<◌, ℕ, true, List, All, Some, length, map, slice_get, take}
+use Rattle.std.specs.Prelude.{◌≡◌, ℕ, true, List, Some, length, map, slice_get, take}
 use Rattle.nogoods.specs.declared.choice.Choice.{Choice}
+use Rattle.nogoods.specs.declared.choice.Side.{Side}
+use Rattle.nogoods.specs.Pieces.{Bars}
 use Rattle.lpcc_case.specs.Instance.{Instance}
 use Rattle.lpcc_case.specs.Pieces.{BarsOnlyEmptyPieces}
 use Rattle.derivation.specs.declared.step.Step.{Step}
 use Rattle.derivation.specs.declared.step.Step.TheVariants.{Start, Derived}
-use Rattle.derivation.specs.HintRuns.{closes}
+use Rattle.derivation.specs.HintRuns.{NamesBelow, closes}
 
 abbrev pub no_good_of : Step → List Choice
 no_good_of (Start ng) = ng
@@ -15,7 +17,7 @@ abbrev pub no_goods : List Step → List (List Choice)
 no_goods log = map no_good_of log
 
 abbrev pub NamesPairs : Instance → List Choice → Type 0
-NamesPairs a ng = All (λ c. c.pair < length a.pairs) ng
+NamesPairs a ng = NamesBelow (length a.pairs) ng
 
 -- the step follows from the no-goods before it
 abbrev pub Follows : List (List Choice) → Step → Type 0
@@ -25,6 +27,14 @@ Follows earlier (Derived ng hints) = closes earlier ng hints ≡ true
 -- each derived step follows from the steps before it
 abbrev pub IsLog : List Step → Type 0
 IsLog log = (k : ℕ) (step : Step) → slice_get log k ≡ Some step → Follows (no_goods (take k log)) step
+
+-- each starting no-good names pairs below this
+abbrev pub StartsName : ℕ → List Step → Type 0
+StartsName pairs log = (k : ℕ) (ng : List Choice) → slice_get log k ≡ Some (Start ng) → NamesBelow pairs ng
+
+-- one of the starting no-goods bars the piece
+abbrev pub IsBarredByStart : List Step → List Side → Type 0
+IsBarredByStart log sides = (k : ℕ) × (ng : List Choice) × (slice_get log k ≡ Some (Start ng)) × Bars ng sides
 
 -- each starting no-good bars only pieces without points
 abbrev pub StartsAreTrue : Instance → List Step → Type 0

@@ -2,7 +2,7 @@
 ghost use Rattle.std.specs.Prelude.{◌≡◌, ◌<◌, ◌||◌, ℕ, All, [], ◌∷◌};
 ghost use Rattle.nogoods.specs.declared.choice.Choice.{Choice as ChosenSide};
 ghost use Rattle.nogoods.specs.Choices.{same_choice};
-ghost use Rattle.derivation.specs.HintRuns.{NamesFewPairs, is_assumed};
+ghost use Rattle.derivation.specs.HintRuns.{NamesBelow, is_assumed};
 ghost use Rattle.derivation.specs.Flags.{flag_of, Shows};
 
 use nogoods::{Choice, Side};
@@ -27,7 +27,7 @@ impl Assumed {
 
     /// These choices.
     pub(crate) fn of(choices: &[Choice]) -> Assumed
-        requires { NamesFewPairs choices.now }
+        requires { NamesBelow 512 choices.now }
         ensures { Shows result choices.now }
     {
         let mut assumed = Assumed::none();

@@ -3,7 +3,7 @@ use Rattle.std.specs.Prelude.{All}
 use Rattle.std.proofs.lemmas.List.Elements.{All-get_or}
 use Rattle.nogoods.specs.declared.choice.Choice.{Choice}
 use Rattle.nogoods.specs.Choices.{other}
-use Rattle.derivation.specs.HintRuns.{NamesFewPairs, closes, unassumed}
+use Rattle.derivation.specs.HintRuns.{NamesBelow, closes, unassumed}
 use Rattle.derivation.proofs.Unassumed.{implied_named}
 use Rattle.derivation.proofs.RunSteps.{held_ends, one_goes_on, one_shows}
 use Rattle.derivation.proofs.hint_run.closes.Goals as goal
@@ -14,10 +14,10 @@ loop-at-init g c =
     (c.args.ng.now, rw c.choices.ensures.list at c.of-assumed.ensures, λ i. closes earlier c.args.ng.now c.args.hints.now)
 
 -- the choice that becomes assumed names one of the pairs
-named : (earlier : List (List Choice)) (cs list : List Choice) (h count : ℕ) (choice implied : Choice) → All NamesFewPairs earlier → count ≡ length earlier → h < count → cs ≡ get_or earlier h [] → unassumed list cs ≡ choice ∷ [] → implied ≡ other choice → implied.pair < 512
+named : (earlier : List (List Choice)) (cs list : List Choice) (h count : ℕ) (choice implied : Choice) → All (NamesBelow 512) earlier → count ≡ length earlier → h < count → cs ≡ get_or earlier h [] → unassumed list cs ≡ choice ∷ [] → implied ≡ other choice → implied.pair < 512
 named earlier cs list h count choice implied few counted inside read left is =
     let at : h < length earlier = rw counted at inside in
-    let here : NamesFewPairs cs = rw read (All-get_or NamesFewPairs earlier h [] at few) in
+    let here : NamesBelow 512 cs = rw read (All-get_or (NamesBelow 512) earlier h [] at few) in
     implied_named list cs choice implied here left is
 
 pub has-requires : goal.has-requires
