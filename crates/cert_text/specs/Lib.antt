@@ -1,2 +1,4 @@
 pub mod Certs
 pub mod Spelling
+pub mod Parts
+pub mod Reading
