@@ -39,16 +39,26 @@ right_sum a mult = sum_over (λ m. m.1 *ℤ (constraint_at a m.0).rhs) mult
 
 -- ---- the four parts of the test
 
--- constraints of the case in ascending order, multipliers that are narrow and not zero, choices that name pairs
-pub record IsIndexed (a : Instance) (ng : List Choice) (mult : List (ℕ × ℤ)) : Type 0 where
+abbrev pub IsMultiplier : ℤ → Type 0
+IsMultiplier y = IsNarrow y × (y ≢ pos 0)
+
+-- constraints of the case in ascending order, each with a multiplier that is narrow and not zero
+pub record AreMultipliers (a : Instance) (mult : List (ℕ × ℤ)) : Type 0 where
   pub ascending : IsTrue (ascends_by constraint_of mult)
   pub constraints_named : All (λ m. m.0 < length a.constraints) mult
-  pub numbers : All (λ m. IsNarrow m.1 × (m.1 ≢ pos 0)) mult
+  pub numbers : All (λ m. IsMultiplier m.1) mult
+
+-- multipliers of the case, and choices that name pairs
+pub record IsIndexed (a : Instance) (ng : List Choice) (mult : List (ℕ × ℤ)) : Type 0 where
+  pub multipliers : AreMultipliers a mult
   pub pairs_named : All (λ c. c.pair < length a.pairs) ng
 
 -- a negative multiplier stands on an equation, or on the chosen side of one of the choices
+abbrev pub HasSign : Instance → List Choice → ℕ × ℤ → Type 0
+HasSign a ng m = m.1 <ℤ pos 0 → (constraint_at a m.0).kind ≡ Ge → Any (λ c. chosen_number a c ≡ m.0) ng
+
 abbrev pub HasSigns : Instance → List Choice → List (ℕ × ℤ) → Type 0
-HasSigns a ng mult = All (λ m. m.1 <ℤ pos 0 → (constraint_at a m.0).kind ≡ Ge → Any (λ c. chosen_number a c ≡ m.0) ng) mult
+HasSigns a ng mult = All (HasSign a ng) mult
 
 -- in each column the weighed sum is 0, or e times the cost
 abbrev pub HasSums : Instance → Cut → Type 0

@@ -1,0 +1,4 @@
+pub mod InPlace
+pub mod Columns
+pub mod Steps
+pub mod Marks

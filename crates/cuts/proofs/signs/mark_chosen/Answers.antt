@@ -1,0 +1,14 @@
+use Rattle.std.proofs.Common.{◌<◌, arith, length}
+use Rattle.cuts.proofs.Marks.{marks_from, marks_more, mark_found}
+use Rattle.cuts.proofs.signs.mark_chosen.Goals as goal
+
+pub loop-choice-preserved : goal.loop-choice-preserved
+loop-choice-preserved c =
+    let room : c.number_of.result < length c.loop-choice.marks = omega (arith, c.number_of.ensures.within) in
+    record {
+      chosen = marks_from c.args.case.now c.args.choices.now c.loop-choice.marks c.loop-choice.choice-index c.number_of.result _ c.loop-choice-test.true c.number_of.ensures.value c.loop-choice.invariant.chosen;
+      marked = marks_more c.args.case.now c.args.choices.now c.loop-choice.marks c.loop-choice.choice-index c.number_of.result _ c.loop-choice-test.true room c.number_of.ensures.value c.loop-choice.invariant.marked;
+    }
+
+pub returns : goal.returns
+returns c = λ k. (c.loop-choice.invariant.chosen k, mark_found c.args.case.now c.args.choices.now c.loop-choice.marks c.loop-choice.choice-index k c.loop-choice-test.false c.loop-choice.invariant.marked)

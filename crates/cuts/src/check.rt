@@ -1,0 +1,66 @@
+//! The test of a cut.
+ghost use Rattle.cuts.specs.Cuts.{IsJudged};
+ghost use Rattle.cuts.specs.declared.cut.Cut.TheVariants as cut_of;
+
+use crate::places::is_indexed;
+use crate::signs::has_signs;
+use crate::sums::{is_multiple_of_cost, right_sum};
+use crate::{Cut, CutFault};
+use lpcc_case::Case;
+use nogoods::NoGood;
+
+/// Tests a ray cut, given by its parts, in time linear in the terms of its constraints. It takes
+/// no memory.
+pub fn check_ray(case: &Case, ng: &NoGood, mult: &[(u32, i64)]) -> Result<(), CutFault>
+    ensures judged { IsJudged case.now (cut_of.Ray ng.now mult.now) result }
+{
+    if !is_indexed(case, ng, mult) {
+        return Err(CutFault::Index);
+    }
+    if !has_signs(case, ng, mult) {
+        return Err(CutFault::Sign);
+    }
+    if !is_multiple_of_cost(case, mult, 0) {
+        return Err(CutFault::Sum);
+    }
+    if right_sum(case, mult) <= 0 {
+        return Err(CutFault::Bound);
+    }
+    Ok(())
+}
+
+/// Tests a point cut, given by its parts, in time linear in the terms of its constraints. It
+/// takes no memory.
+pub fn check_point(
+    case: &Case,
+    ng: &NoGood,
+    mult: &[(u32, i64)],
+    e: i64,
+    v: i128,
+) -> Result<(), CutFault>
+    ensures judged { IsJudged case.now (cut_of.Point ng.now mult.now e v) result }
+{
+    if !is_indexed(case, ng, mult) {
+        return Err(CutFault::Index);
+    }
+    if !has_signs(case, ng, mult) {
+        return Err(CutFault::Sign);
+    }
+    if e < 1 || !is_multiple_of_cost(case, mult, e) {
+        return Err(CutFault::Sum);
+    }
+    if right_sum(case, mult) != v {
+        return Err(CutFault::Bound);
+    }
+    Ok(())
+}
+
+/// Tests a cut. The first fault counts, in the order in which `CutFault` lists them.
+pub fn check_cut(case: &Case, cut: &Cut) -> Result<(), CutFault>
+    ensures judged { IsJudged case.now cut.now result }
+{
+    match cut {
+        Cut::Ray { ng, mult } => check_ray(case, ng, mult.as_slice()),
+        Cut::Point { ng, mult, e, v } => check_point(case, ng, mult.as_slice(), *e, *v),
+    }
+}
