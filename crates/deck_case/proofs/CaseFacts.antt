@@ -1,5 +1,5 @@
 -- The case of a deck keeps the limits of a case.
-use Rattle.std.proofs.Common.{ℕ, zero, ◌+◌, ◌<◌, ◌≤◌, ◌^◌, ◌≡◌, ◌≢◌, refl, sym, ap, subst, ◌∙◌, arith, ℤ, pos, neg_ℤ, List, [], ◌∷◌, ◌++◌, length, get_or, map, filter, true, None, Some, Option, All, slice_get}
+use Rattle.std.proofs.Common.{ℕ, ◌+◌, ◌<◌, ◌≤◌, ◌≡◌, ◌≢◌, refl, sym, ap, subst, ◌∙◌, arith, ℤ, pos, neg_ℤ, List, [], ◌∷◌, ◌++◌, length, get_or, map, filter, true, Some, Option, All, slice_get}
 use Rattle.std.specs.Prelude.{◌==◌, IsTrue}
 use Rattle.std.proofs.lemmas.Int.{ints}
 use Rattle.std.specs.List.{enumerate_from, flat_map, range_with_len}
@@ -74,11 +74,11 @@ row_fits d k rhs h r = record {
   right = fits rhs r;
 }
 
-sides_fit : (P : Constraint → Type 0) (letter : Letter) (terms : List (ℕ × ℤ)) (rhs : ℤ) → P (at_least terms rhs) → All P (sides_by_letter letter terms rhs)
+pub sides_fit : (P : Constraint → Type 0) (letter : Letter) (terms : List (ℕ × ℤ)) (rhs : ℤ) → P (at_least terms rhs) → All P (sides_by_letter letter terms rhs)
 sides_fit P N terms rhs h = All-nil P
 sides_fit P G terms rhs h = All-cons P (at_least terms rhs) [] h (All-nil P)
 
-All-flat_map : {X A : Type 0} (P : A → Type 0) (f : X → List A) (xs : List X) → All (λ x. All P (f x)) xs → All P (flat_map f xs)
+pub All-flat_map : {X A : Type 0} (P : A → Type 0) (f : X → List A) (xs : List X) → All (λ x. All P (f x)) xs → All P (flat_map f xs)
 All-flat_map P f [] h = All-nil P
 All-flat_map P f (x ∷ xs) h = All-append P (f x) (flat_map f xs) (All-head (λ y. All P (f y)) x xs h) (All-flat_map P f xs (All-tail (λ y. All P (f y)) x xs h))
 
@@ -98,7 +98,7 @@ bound_fits columns j h = record {
   right = omega arith;
 }
 
-all_below : (P : ℕ → Type 0) (n : ℕ) → ((j : ℕ) → j < n → P j) → All P (range_with_len 0 n)
+pub all_below : (P : ℕ → Type 0) (n : ℕ) → ((j : ℕ) → j < n → P j) → All P (range_with_len 0 n)
 all_below P n h i d l =
     let within : i < n = omega (arith, length-range_with_len 0 n) in
     subst P (sym (get_or-range_with_len 0 n i d within)) (h (0 + i) (omega arith))
@@ -126,7 +126,7 @@ offset_fits d h =
 
 -- ---- pairs
 
-bound_at : (d : Deck) (j : ℕ) → j < d.columns → slice_get (constraints_of d) (lower_number d j) ≡ Some (lower_bound j)
+pub bound_at : (d : Deck) (j : ℕ) → j < d.columns → slice_get (constraints_of d) (lower_number d j) ≡ Some (lower_bound j)
 bound_at d j h =
     let rows = row_constraints d in
     let bounds = column_constraints d.columns in

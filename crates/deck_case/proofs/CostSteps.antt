@@ -1,5 +1,5 @@
 -- How the cost grows term by term.
-use Rattle.std.proofs.Common.{ℕ, zero, suc, ◌+◌, ◌<◌, ◌≡◌, ◌≢◌, refl, sym, ap, subst, ◌∙◌, inl, inr, arith, ℤ, pos, ◌+ℤ◌, List, [], ◌∷◌, ◌++◌, length, get_or, set, take, true, false, cond, eqb, get_or-set_same, get_or-set_other}
+use Rattle.std.proofs.Common.{ℕ, zero, suc, ◌+◌, ◌<◌, ◌≡◌, ◌≢◌, refl, sym, ap, subst, ◌∙◌, inl, inr, arith, ℤ, pos, ◌+ℤ◌, List, [], ◌∷◌, length, get_or, set, take, cond, eqb, get_or-set_same, get_or-set_other}
 use Rattle.std.specs.Prelude.{IsTrue}
 use Rattle.std.proofs.Math.IntN.{+ℤ_idl, +ℤ_idr}
 use Rattle.std.proofs.lemmas.Bool.{cases_eq, eq-eqb, ne_eqb}
@@ -7,7 +7,6 @@ use Rattle.std.proofs.lemmas.List.{take_more}
 use Rattle.std.proofs.lemmas.List.Elements.{recursion_from_All}
 use Rattle.std.specs.List.{AllByRecursion}
 use Rattle.lp_base.specs.Ascending.{ascends_by}
-use Rattle.lp_base.specs.Sums.{sum_over}
 use Rattle.lp_base.proofs.SumLaws.{sum_over-append}
 use Rattle.lpcc_case.specs.Cases.{column_of}
 use Rattle.deck_case.proofs.Rising.{ascends-tail, head_below}

@@ -1,5 +1,5 @@
 -- Lists whose keys ascend strictly.
-use Rattle.std.proofs.Common.{ℕ, zero, suc, ◌+◌, ◌<◌, ◌≡◌, refl, arith, ap, List, [], ◌∷◌, length, get_or, map, filter, All, Bool, cond, nat_lt, ◌&&◌, true}
+use Rattle.std.proofs.Common.{ℕ, zero, suc, ◌<◌, ◌≡◌, refl, arith, ap, List, [], ◌∷◌, length, get_or, map, filter, All, Bool, nat_lt, ◌&&◌}
 use Rattle.std.specs.Prelude.{IsTrue}
 use Rattle.std.proofs.lemmas.Bool.{and_parts, and_from, cond_both, ltb-true, lt-ltb}
 use Rattle.std.proofs.lemmas.List.Elements.{All-filter}

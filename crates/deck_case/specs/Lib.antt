@@ -1,2 +1,3 @@
 pub mod DeckCases
 pub mod Faults
+pub mod DeckPoints

@@ -9,11 +9,16 @@ ghost use Rattle.mps_pairs.specs.Decks.{IsDeck};
 
 mod columns;
 mod fault;
+mod laws;
 mod objective;
 mod pairs;
 mod rows;
 
 pub use fault::CaseFault;
+pub use laws::{
+    cost_is_the_objective, feasible_exactly_where_the_deck_is_met,
+    value_is_the_objective_with_its_constant,
+};
 use lp_base::Sequence;
 use lpcc_case::Case;
 use mps_pairs::Deck;

@@ -1,4 +1,4 @@
-use Rattle.std.proofs.Common.{◌∙◌, ap, arith, rules, pos, length, get_or, length-set, FitsSigned, w64}
+use Rattle.std.proofs.Common.{◌∙◌, ap, arith, rules, pos, get_or, length-set, FitsSigned, w64}
 use Rattle.std.proofs.lemmas.List.{take_all}
 use Rattle.std.proofs.lemmas.List.FromFn.{fill_by_all}
 use Rattle.lp_base.proofs.Machine.{again_64}
