@@ -1,5 +1,5 @@
 -- Lines and texts: what is read is spelled so, and what is spelled is read.
-use Rattle.std.proofs.Common.{◌≡◌, ℕ, ◌+◌, ◌<◌, Bool, true, false, cond, ltb, eqb, List, [], ◌∷◌, ◌++◌, length, get_or, drop, map, Option, Some, None, Result, Ok, Err, refl, sym, ap, subst, ◌∙◌, inl, inr, append_assoc, arith, ℤ, pos, ◌≤ℤ◌}
+use Rattle.std.proofs.Common.{◌≡◌, ℕ, ◌+◌, ◌<◌, Bool, true, cond, ltb, eqb, List, [], ◌∷◌, ◌++◌, length, get_or, drop, map, Option, Some, None, Result, Ok, Err, refl, sym, ap, subst, ◌∙◌, inl, inr, append_assoc, arith, ℤ, pos, ◌≤ℤ◌}
 use Rattle.std.specs.Prelude.{All, IfOk, IsErrOf, bytes_eq, flat_map, codes}
 use Rattle.std.specs.Fmt.{decimal, signed_decimal}
 use Rattle.std.specs.List.{list_all, join_with_byte}
@@ -20,9 +20,10 @@ use Rattle.cert_text.specs.declared.cert.CertLine.TheVariants.{Ray, Point, Deriv
 use Rattle.cert_text.specs.declared.fault.CertFault.{CertFault}
 use Rattle.cert_text.specs.declared.fault.CertFault.TheVariants.{NoMemory, NotYet}
 use Rattle.cert_text.specs.Certs.{IsLine, KeepsForm}
-use Rattle.cert_text.specs.Spelling.{Word, side_letter, choice_word, multiplier_words, hint_word, colon, line_words, end_words, cert_words, line_bytes, text_of, spelling, Spells}
+use Rattle.cert_text.specs.Spelling.{Word, side_letter, choice_word, multiplier_words, hint_word, colon, line_words, end_words, cert_words, line_bytes, spelling, Spells}
+use Rattle.cert_text.specs.Answers.{GivesCert}
 use Rattle.cert_text.specs.Parts.{parts}
-use Rattle.cert_text.specs.Reading.{◌>>=◌, Gives, GivesCert, positive_at, after, no_good_at, multipliers_at, hints_from, ray_at, bound_at, point_at, derived_at, line_at, is_count, lines_from, is_finished, cert_at}
+use Rattle.cert_text.specs.Reading.{◌>>=◌, Gives, positive_at, after, no_good_at, multipliers_at, hints_from, ray_at, bound_at, point_at, derived_at, line_at, is_count, lines_from, is_finished, cert_at}
 use Rattle.cert_text.proofs.Numbers.{bind_some, chosen, positive_takes, positive_int_again, IsPlain, plain_decimal, plain_signed}
 use Rattle.cert_text.proofs.Stepping.{step, step_is}
 use Rattle.cert_text.proofs.Joined.{IsInLine, words_joined, line_in_line, lines_joined, joined_is_text}
@@ -37,6 +38,9 @@ after_takes wanted (l ∷ ls) rest e =
     let g = cond_some (bytes_eq l wanted) ls rest e in
     ap (λ (x : List ℕ). x ∷ ls) ((bytes_eq-Decides l wanted).0 g.0) ∙ ap (λ (x : List (List ℕ)). wanted ∷ x) g.1
 
+front : (kind : Word) (ws : List Word) (ng : List Choice) (rest behind : List Word) → ws ≡ map choice_word ng ++ colon ∷ rest → rest ≡ behind → kind ∷ ws ≡ kind ∷ map choice_word ng ++ colon ∷ behind
+front kind ws ng rest behind e f = ap (λ (t : List Word). kind ∷ t) (e ∙ ap (λ (t : List Word). map choice_word ng ++ colon ∷ t) f)
+
 ray_takes : (ws : List Word) (x : CertLine) → ray_at ws ≡ Some x → (codes "i" ∷ ws ≡ line_words x) × IsLine x
 unfolding ray_at
 ray_takes ws x e =
@@ -44,8 +48,8 @@ ray_takes ws x e =
     let b = bind_some (multipliers_at a.0.1) (λ mult. Some (Ray a.0.0 mult)) x a.2 in
     let n = no_good_takes ws a.0 a.1 in
     let r = row_takes a.0.1 b.0 b.1 in
-    subst (λ (y : CertLine). (codes "i" ∷ ws ≡ line_words y) × IsLine y) (same_Some (Ray a.0.0 b.0) x b.2)
-    (ap (λ (t : List Word). codes "i" ∷ t) (n.0 ∙ ap (λ (t : List Word). map choice_word a.0.0 ++ colon ∷ t) r.0), (n.1, r.1))
+    subst (λ (y : CertLine). (codes "i" ∷ ws ≡ line_words y) × IsLine y) {x = Ray a.0.0 b.0} (same_Some (Ray a.0.0 b.0) x b.2)
+    (front (codes "i") ws a.0.0 a.0.1 (flat_map multiplier_words b.0) n.0 r.0, (n.1, r.1))
 
 bound_takes : (ws : List Word) (x : ℤ × List Word) → bound_at ws ≡ Some x → (ws ≡ signed_decimal x.0 ∷ colon ∷ x.1) × (pos 1 ≤ℤ x.0) × IsNarrow x.0
 unfolding bound_at
@@ -55,8 +59,11 @@ bound_takes (w ∷ ws) x e =
     let b = bind_some (after colon ws) (λ rest. Some (a.0, rest)) x a.2 in
     let p = positive_takes w a.0 a.1 in
     let made : ℤ × List Word = (a.0, b.0) in
-    subst (λ (y : ℤ × List Word). (w ∷ ws ≡ signed_decimal y.0 ∷ colon ∷ y.1) × (pos 1 ≤ℤ y.0) × IsNarrow y.0) (same_Some made x b.2)
+    subst (λ (y : ℤ × List Word). (w ∷ ws ≡ signed_decimal y.0 ∷ colon ∷ y.1) × (pos 1 ≤ℤ y.0) × IsNarrow y.0) {x = made} (same_Some made x b.2)
     (ap (λ (v : Word). v ∷ ws) (sym p.0) ∙ ap (λ (t : List Word). signed_decimal a.0 ∷ t) (after_takes colon ws b.0 b.1), p.1, p.2)
+
+bound_front : (ws : List Word) (e : ℤ) (rest behind : List Word) → ws ≡ signed_decimal e ∷ colon ∷ rest → rest ≡ behind → ws ≡ signed_decimal e ∷ colon ∷ behind
+bound_front ws e rest behind k f = k ∙ ap (λ (t : List Word). signed_decimal e ∷ colon ∷ t) f
 
 point_takes : (ws : List Word) (x : CertLine) → point_at ws ≡ Some x → (codes "p" ∷ ws ≡ line_words x) × IsLine x
 unfolding point_at
@@ -67,9 +74,9 @@ point_takes ws x e =
     let n = no_good_takes ws a.0 a.1 in
     let k = bound_takes a.0.1 b.0 b.1 in
     let r = row_takes b.0.1 d.0 d.1 in
-    let behind : a.0.1 ≡ signed_decimal b.0.0 ∷ colon ∷ flat_map multiplier_words d.0 = k.0 ∙ ap (λ (t : List Word). signed_decimal b.0.0 ∷ colon ∷ t) r.0 in
-    subst (λ (y : CertLine). (codes "p" ∷ ws ≡ line_words y) × IsLine y) (same_Some (Point a.0.0 b.0.0 d.0) x d.2)
-    (ap (λ (t : List Word). codes "p" ∷ t) (n.0 ∙ ap (λ (t : List Word). map choice_word a.0.0 ++ colon ∷ t) behind), (n.1, k.1, k.2, r.1))
+    let behind : a.0.1 ≡ signed_decimal b.0.0 ∷ colon ∷ flat_map multiplier_words d.0 = bound_front a.0.1 b.0.0 b.0.1 (flat_map multiplier_words d.0) k.0 r.0 in
+    subst (λ (y : CertLine). (codes "p" ∷ ws ≡ line_words y) × IsLine y) {x = Point a.0.0 b.0.0 d.0} (same_Some (Point a.0.0 b.0.0 d.0) x d.2)
+    (front (codes "p") ws a.0.0 a.0.1 (signed_decimal b.0.0 ∷ colon ∷ flat_map multiplier_words d.0) n.0 behind, (n.1, k.1, k.2, r.1))
 
 derived_takes : (ws : List Word) (x : CertLine) → derived_at ws ≡ Some x → (codes "d" ∷ ws ≡ line_words x) × IsLine x
 unfolding derived_at
@@ -78,8 +85,8 @@ derived_takes ws x e =
     let b = bind_some (hints_from [] a.0.1) (λ hints. Some (Derived a.0.0 hints)) x a.2 in
     let n = no_good_takes ws a.0 a.1 in
     let h = hints_takes a.0.1 b.0 b.1 in
-    subst (λ (y : CertLine). (codes "d" ∷ ws ≡ line_words y) × IsLine y) (same_Some (Derived a.0.0 b.0) x b.2)
-    (ap (λ (t : List Word). codes "d" ∷ t) (n.0 ∙ ap (λ (t : List Word). map choice_word a.0.0 ++ colon ∷ t) h.0), (n.1, h.1))
+    subst (λ (y : CertLine). (codes "d" ∷ ws ≡ line_words y) × IsLine y) {x = Derived a.0.0 b.0} (same_Some (Derived a.0.0 b.0) x b.2)
+    (front (codes "d") ws a.0.0 a.0.1 (map hint_word b.0) n.0 h.0, (n.1, h.1))
 
 of_kind : (kind letter : Word) (ws : List Word) (x : CertLine) → bytes_eq kind letter ≡ true → (letter ∷ ws ≡ line_words x) × IsLine x → (kind ∷ ws ≡ line_words x) × IsLine x
 of_kind kind letter ws x t h = (ap (λ (v : Word). v ∷ ws) ((bytes_eq-Decides kind letter).0 t) ∙ h.0, h.1)
@@ -176,7 +183,7 @@ cert_takes text c e =
     ∙ ap (λ (t : List (List ℕ)). head_line ∷ kind_line ∷ t) t.0 ∙ ap (λ (t : List (List ℕ)). head_line ∷ kind_line ∷ map line_text xs ++ line_bytes (end_words xs) ∷ t) (finished_takes f.0.1 g.0) in
     let spelled : text ≡ spelling (Infeasible xs) =
     sym (join_with_byte-slice_split 10 text) ∙ ap (join_with_byte 10) (whole ∙ sym (parts_of_text xs)) ∙ joined_is_text (map line_bytes (cert_words (Infeasible xs))) in
-    subst (Spells text) g.1 (record { form = t.1 (All-nil IsLine); text_is = spelled })
+    subst (Spells text) {x = Infeasible xs} g.1 (record { form = t.1 (All-nil IsLine); text_is = spelled })
 
 -- ---- no byte of a word is a space or LF
 

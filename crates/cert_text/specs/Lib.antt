@@ -1,4 +1,5 @@
 pub mod Certs
 pub mod Spelling
+pub mod Answers
 pub mod Parts
 pub mod Reading

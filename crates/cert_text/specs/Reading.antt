@@ -1,5 +1,5 @@
 -- Reading a certificate from the front, word by word: what each part of a text spells, or none.
-use Rattle.std.specs.Prelude.{◌≡◌, ◌+◌, ◌-◌, ◌*◌, ◌^◌, ℕ, ℤ, pos, neg_ℤ, Bool, true, false, ◌&&◌, ◌==◌, nat_lt, nat_le, if◌then◌else◌, List, [], ◌∷◌, ◌++◌, length, take, drop, slice_index, slice_index_or, Option, Some, None, Result, Ok, Err, codes, bytes_eq}
+use Rattle.std.specs.Prelude.{◌≡◌, ◌+◌, ◌-◌, ◌*◌, ◌^◌, ℕ, ℤ, pos, neg_ℤ, Bool, false, ◌&&◌, ◌==◌, nat_lt, nat_le, if◌then◌else◌, List, [], ◌∷◌, ◌++◌, length, take, drop, slice_index, slice_index_or, Option, Some, None, Result, Ok, Err, codes, bytes_eq}
 use Rattle.std.specs.Char.{is_ascii_digit}
 use Rattle.std.specs.Fmt.{decimal}
 use Rattle.lp_base.specs.Ascending.{ascends_by}
@@ -174,9 +174,3 @@ cert_at lines = do
   behind_kind ← after (codes "infeasible") behind_head
   found ← lines_from [] behind_kind
   if is_finished found.1 then Some (Infeasible found.0) else None
-
--- the call gave this certificate, or memory ran out
-abbrev pub GivesCert : Result Cert CertFault → Cert → Type 0
-GivesCert (Ok found) cert = found ≡ cert
-GivesCert (Err (NoMemory e)) cert = Unit {0}
-GivesCert (Err NotYet) cert = ⊥

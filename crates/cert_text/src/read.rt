@@ -2,8 +2,9 @@
 ghost use Rattle.std.specs.Prelude.{◌≡◌, ◌<◌, ◌-◌, ◌^◌, List, ℕ, IfOk, IsErrOf, length};
 ghost use Rattle.cert_text.specs.declared.cert.Cert.{Cert as Certificate};
 ghost use Rattle.cert_text.specs.Spelling.{Spells};
+ghost use Rattle.cert_text.specs.Answers.{GivesCert};
 ghost use Rattle.cert_text.specs.Parts.{parts};
-ghost use Rattle.cert_text.specs.Reading.{Gives, GivesCert, cert_at};
+ghost use Rattle.cert_text.specs.Reading.{Gives, cert_at};
 
 use crate::lines::{is_finished, lines_of};
 use crate::lists::take_part;

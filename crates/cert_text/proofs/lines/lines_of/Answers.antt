@@ -1,6 +1,5 @@
-use Rattle.std.proofs.Common.{◌≡◌, ◌∷◌, sym, ap, ◌∙◌, true, false}
+use Rattle.std.proofs.Common.{sym, ap, ◌∙◌, true, false}
 use Rattle.std.proofs.lemmas.Result.{err_from_is_err_and}
-use Rattle.cert_text.specs.Parts.{parts}
 use Rattle.cert_text.specs.Reading.{is_count}
 use Rattle.cert_text.proofs.Stepping.{some_words, lines_end, lines_refused, lines_go_on, lines_stop}
 use Rattle.cert_text.proofs.lines.lines_of.Goals as goal
