@@ -1,3 +1,4 @@
 pub mod GcdLaws
 pub mod OrderLaws
 pub mod FractionLaws
+pub mod DigitLaws

@@ -3,6 +3,7 @@
 #![tactic(auto)]
 
 mod divisors;
+mod form;
 mod fractions;
 mod laws;
 mod order;
