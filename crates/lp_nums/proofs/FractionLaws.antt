@@ -93,7 +93,7 @@ same_factor a b d some e =
     by_lt_z a b (λ l. absurd (omega (arith, ints, more a b l, e)))
     (λ l. by_lt_z b a (λ k. absurd (omega (arith, ints, more b a k, e))) (λ k. omega (arith, ints)))
 
-same_by : (a b d : ℤ) → pos 1 ≤ℤ d → a *ℤ d ≡ b *ℤ d → a ≡ b
+pub same_by : (a b d : ℤ) → pos 1 ≤ℤ d → a *ℤ d ≡ b *ℤ d → a ≡ b
 same_by a b (pos d) p e = same_factor a b d (omega (arith, ints)) e
 same_by a b (negsuc d) p e = absurd (omega (arith, ints))
 

@@ -1,8 +1,9 @@
 -- Decimal numbers as texts of bytes, and what they spell.
-use Rattle.std.specs.Prelude.{◌≡◌, ℕ, suc, ◌+◌, ◌-◌, ◌*◌, ◌^◌, ◌<◌, ◌≤◌, Bool, true, false, not, ◌&&◌, ◌||◌, cond, ◌==◌, nat_lt, nat_le, List, [], ◌∷◌, length, filter, count_by, ℤ, pos, negsuc, neg_ℤ, ◌+ℤ◌, ◌-ℤ◌, ◌*ℤ◌, int_lt}
+use Rattle.std.specs.Prelude.{ℕ, suc, ◌-◌, ◌^◌, Bool, not, ◌&&◌, ◌||◌, cond, ◌==◌, nat_lt, nat_le, List, [], ◌∷◌, length, filter, count_by, ℤ, pos, negsuc, neg_ℤ, ◌+ℤ◌, ◌-ℤ◌, ◌*ℤ◌, int_lt}
 use Rattle.std.specs.List.{list_any, list_all, before_first, after_first, suffix_len}
 use Rattle.std.specs.Char.{is_ascii_digit}
 use Rattle.std.specs.Str.Parse.{digits_value, signed_digits_value, starts_with_minus, without_leading_sign}
+use Rattle.std.specs.Int.{int_min, int_max}
 use Rattle.lp_nums.specs.Fractions.{Fraction}
 
 -- 'E' or 'e'
@@ -57,6 +58,10 @@ scale text = length (after_first is_point (mantissa text))
 -- the power of ten that the last digit counts
 abbrev pub last_power : List ℕ → ℤ
 last_power text = signed_digits_value 10 (exponent text) -ℤ pos (scale text)
+
+-- z, or the end of the numbers from -far to far that is nearer
+abbrev pub clamped : ℕ → ℤ → ℤ
+clamped far z = int_max (neg_ℤ (pos far)) (int_min (pos far) z)
 
 abbrev pub signed : Bool → ℕ → ℤ
 signed minus n = cond minus (neg_ℤ (pos n)) (pos n)

@@ -1,2 +1,4 @@
 pub mod Fractions
 pub mod Decimals
+pub mod Significands
+pub mod NumberFaults

@@ -3,7 +3,7 @@
 ghost use Rattle.std.specs.Prelude.{◌≡◌, ◌+◌, ◌≤◌, nat_le, length, drop, position, count_by};
 ghost use Rattle.std.specs.List.{list_any, list_all, position_or_len, after_first};
 ghost use Rattle.std.specs.Char.{is_ascii_digit};
-ghost use Rattle.std.specs.Str.Parse.{without_leading_sign};
+ghost use Rattle.std.specs.Str.Parse.{starts_with_minus, without_leading_sign};
 ghost use Rattle.lp_nums.specs.Decimals.{is_exponent_mark, is_point, is_digit_or_point, mantissa, exponent, has_exponent, is_mantissa, is_numeral, is_decimal};
 
 /// The text behind its sign, if it has one.
@@ -14,6 +14,13 @@ pub fn without_sign(text: &[u8]) -> &[u8]
         [b'+' | b'-', rest @ ..] => rest,
         _ => text,
     }
+}
+
+/// Whether the text begins with a minus.
+pub fn is_negative(text: &[u8]) -> bool
+    ensures { result ≡ starts_with_minus text.now }
+{
+    matches!(text, [b'-', ..])
 }
 
 fn mark(text: &[u8]) -> Option<usize>
@@ -124,5 +131,6 @@ fn is_numeral(text: &[u8]) -> bool
 pub fn is_decimal(text: &[u8]) -> bool
     ensures { result ≡ is_decimal text.now }
 {
-    is_mantissa(mantissa_of(text)) && (!has_mark(text) || is_numeral(without_sign(exponent_of(text))))
+    is_mantissa(mantissa_of(text))
+        && (!has_mark(text) || is_numeral(without_sign(exponent_of(text))))
 }

@@ -1,6 +1,6 @@
 //! Fractions in lowest terms.
 
-ghost use Rattle.std.specs.Prelude.{◌≡◌, ◌^◌, ◌<◌, ℤ, pos, ◌*ℤ◌, ◌≤ℤ◌, unsigned_abs};
+ghost use Rattle.std.specs.Prelude.{◌≡◌, ◌^◌, ◌<◌, ◌≤◌, ℤ, pos, ◌*ℤ◌, ◌≤ℤ◌, unsigned_abs};
 ghost use Rattle.std.specs.Int.{◌∣◌, IsGcd};
 ghost use Rattle.lp_nums.specs.Fractions.{IsReduced, SameValue};
 
@@ -31,7 +31,8 @@ impl Model for Frac {
 fn quotient(n: i128, divisor: i128) -> i128
     requires positive { pos 1 ≤ℤ divisor }
     requires divides { unsigned_abs divisor ∣ unsigned_abs n }
-    ensures { result *ℤ divisor ≡ n }
+    ensures value { result *ℤ divisor ≡ n }
+    ensures bound { unsigned_abs result ≤ unsigned_abs n }
 {
     n / divisor
 }
@@ -50,6 +51,8 @@ impl Frac {
         requires room { unsigned_abs num < 2 ^ 127 }
         ensures value { SameValue result (record { num = num; den = den }) }
         ensures lowest { IsReduced result }
+        ensures num_bound { unsigned_abs result.num ≤ unsigned_abs num }
+        ensures den_bound { unsigned_abs result.den ≤ unsigned_abs den }
     {
         let common = gcd(num, den);
         Frac {

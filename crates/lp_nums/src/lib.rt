@@ -2,12 +2,15 @@
 //! quotients. No call takes memory.
 #![tactic(auto)]
 
+mod decimals;
 mod divisors;
 mod form;
 mod fractions;
 mod laws;
 mod order;
+mod scan;
 
+pub use decimals::{NumberFault, read_decimal};
 pub use divisors::gcd;
 pub use fractions::Frac;
 pub use laws::{lowest_terms_are_unique, reducing_keeps_the_value};

@@ -1,5 +1,5 @@
 use Rattle.lp_nums.proofs.FractionLaws.{divided}
 use Rattle.lp_nums.proofs.fractions.quotient.Goals as goal
 
-pub returns : goal.returns
-returns c = divided c.args.n c.args.divisor c.ranges.n c.ranges.divisor c.requires.positive c.requires.divides
+pub returns-clause-value : goal.returns-clause-value
+returns-clause-value c = divided c.args.n c.args.divisor c.ranges.n c.ranges.divisor c.requires.positive c.requires.divides

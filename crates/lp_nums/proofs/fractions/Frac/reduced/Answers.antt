@@ -26,14 +26,14 @@ invariant_of-result c =
     let g = c.gcd-common in
     (reduced_read c.args.num c.args.den c.quotient.result c.quotient-2.result g.result c.ranges.num c.ranges.den (record {
       sfits = c.quotient.type_inv;
-    }) (record { sfits = c.quotient-2.type_inv }) (record { sfits = g.type_inv }) c.requires.positive g.ensures.not_negative g.ensures.divisor c.quotient.ensures c.quotient-2.ensures).0
+    }) (record { sfits = c.quotient-2.type_inv }) (record { sfits = g.type_inv }) c.requires.positive g.ensures.not_negative g.ensures.divisor c.quotient.ensures.value c.quotient-2.ensures.value).0
 
 pub returns-clause-value : goal.returns-clause-value
 returns-clause-value c =
     let g = c.gcd-common in
     (reduced_read c.args.num c.args.den c.quotient.result c.quotient-2.result g.result c.ranges.num c.ranges.den (record {
       sfits = c.quotient.type_inv;
-    }) (record { sfits = c.quotient-2.type_inv }) (record { sfits = g.type_inv }) c.requires.positive g.ensures.not_negative g.ensures.divisor c.quotient.ensures c.quotient-2.ensures).1
+    }) (record { sfits = c.quotient-2.type_inv }) (record { sfits = g.type_inv }) c.requires.positive g.ensures.not_negative g.ensures.divisor c.quotient.ensures.value c.quotient-2.ensures.value).1
 
 pub returns-clause-lowest : goal.returns-clause-lowest
 returns-clause-lowest c = invariant_of-result c
