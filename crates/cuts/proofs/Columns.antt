@@ -29,14 +29,14 @@ share t j = cond (eqb t.0 j) t.1 (pos 0)
 pub share_at : (k : ℕ) (v : ℤ) → cond (eqb k k) v (pos 0) ≡ v
 share_at k v = grind arith
 
-share_after : (k j : ℕ) (v : ℤ) → j < k → cond (eqb k j) v (pos 0) ≡ pos 0
+pub share_after : (k j : ℕ) (v : ℤ) → j < k → cond (eqb k j) v (pos 0) ≡ pos 0
 share_after k j v h = grind arith
 
 -- a term of another column
 pub share_other : (k j : ℕ) (v : ℤ) → (j ≡ k → ⊥) → cond (eqb k j) v (pos 0) ≡ pos 0
 share_other k j v h = grind arith
 
-share_before : (k j : ℕ) (v : ℤ) → k < j → cond (eqb k j) v (pos 0) ≡ pos 0
+pub share_before : (k j : ℕ) (v : ℤ) → k < j → cond (eqb k j) v (pos 0) ≡ pos 0
 share_before k j v h = grind arith
 
 -- a column below all others of ascending terms has none of them

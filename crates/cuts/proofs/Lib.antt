@@ -2,3 +2,5 @@ pub mod InPlace
 pub mod Columns
 pub mod Steps
 pub mod Marks
+pub mod Exchange
+pub mod CutLaws

@@ -86,14 +86,19 @@ IsJudged a cut (Err Bound) = IsIndexed a (no_good_of cut) (multipliers_of cut) �
 
 -- ---- what a cut says of points
 
--- of the points that meet all constraints and are tight at each of the choices there is none,
--- or each has a value of at least v / e
+-- Of the points that meet all constraints and are tight at each of the choices there is none;
+-- or each of them has a value of at least v / e, where e is at least 1.
 abbrev pub IsTrueCut : Instance → Cut → Type 0
 IsTrueCut a (Ray ng mult) = (p : points.Point a.columns) → points.MeetsAll a p → points.IsTightAt a p ng → ⊥
-IsTrueCut a (Point ng mult e v) = (p : points.Point a.columns) → points.MeetsAll a p → points.IsTightAt a p ng → (v *ℤ pos p.d) ≤ℤ (e *ℤ points.cost_at a p)
+IsTrueCut a (Point ng mult e v) = (pos 1 ≤ℤ e) × ((p : points.Point a.columns) → points.MeetsAll a p → points.IsTightAt a p ng → (v *ℤ pos p.d) ≤ℤ (e *ℤ points.cost_at a p))
 
 -- a ray cut is always active; a point cut is active against a best point whose value is at most its bound v / e
 abbrev pub IsActive : (a : Instance) → Cut → Option (points.Point a.columns) → Type 0
 IsActive a (Ray ng mult) best = Unit {0}
 IsActive a (Point ng mult e v) None = ⊥
 IsActive a (Point ng mult e v) (Some p) = (e *ℤ points.cost_at a p) ≤ℤ (v *ℤ pos p.d)
+
+-- lower than the best point, or there is none yet
+abbrev pub Improves : (a : Instance) → points.Point a.columns → Option (points.Point a.columns) → Type 0
+Improves a p None = Unit {0}
+Improves a p (Some best) = points.IsLower a p best

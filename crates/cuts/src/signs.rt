@@ -1,9 +1,9 @@
 //! Whether each multiplier may have its sign.
 ghost use Rattle.std.specs.Prelude.{◌≡◌, ◌<◌, ◌≤◌, ◌↔◌, ◌<ℤ◌, ℕ, pos, IsTrue, All, Any, false, length, slice_index_or};
-ghost use Rattle.lpcc_case.specs.Instance.{chosen_number, constraint_at};
+ghost use Rattle.lpcc_case.specs.Instance.{chosen_number, no_constraint};
 ghost use Rattle.cuts.specs.Cuts.{HasSigns, IsIndexed};
 
-use lpcc_case::{Case, Kind};
+use lpcc_case::{Case, Constraint, Kind};
 use nogoods::{Choice, NoGood, Side};
 
 /// As many constraints as a case may have.
@@ -37,12 +37,13 @@ fn mark_chosen(case: &Case, choices: &[Choice], marks: &mut [bool])
 
 /// Whether a multiplier is negative and stands on an inequality, so that its constraint is to be
 /// chosen.
-fn needs_choice(case: &Case, multiplier: (u32, i64)) -> bool
-    requires { multiplier.0 < length case.now.constraints }
-    ensures { IsTrue result ↔ (multiplier.1 <ℤ pos 0) × ((constraint_at case.now multiplier.0).kind ≡ Kind.Ge) }
+fn needs_choice(constraints: &[Constraint], multiplier: (u32, i64)) -> bool
+    requires { multiplier.0 < length constraints.now }
+    ensures { IsTrue result ↔ (multiplier.1 <ℤ pos 0)
+        × ((slice_index_or constraints.now multiplier.0 no_constraint).kind ≡ Kind.Ge) }
 {
     let (number, y) = multiplier;
-    y < 0 && case.constraints()[number as usize].kind == Kind::Ge
+    y < 0 && constraints[number as usize].kind == Kind::Ge
 }
 
 /// Whether each negative multiplier stands on an equation or on a chosen constraint.
@@ -50,11 +51,11 @@ pub fn has_signs(case: &Case, ng: &NoGood, mult: &[(u32, i64)]) -> bool
     requires { IsIndexed case.now ng.now mult.now }
     ensures { IsTrue result ↔ HasSigns case.now ng.now mult.now }
 {
-    let _kept = case.constraints();
+    let constraints = case.constraints();
     let mut marks = [false; MOST_CONSTRAINTS];
     mark_chosen(case, ng.choices(), &mut marks);
     for multiplier in mult {
-        if needs_choice(case, *multiplier) && !marks[multiplier.0 as usize] {
+        if needs_choice(constraints, *multiplier) && !marks[multiplier.0 as usize] {
             return false;
         }
     }
