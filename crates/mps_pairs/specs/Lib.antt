@@ -1,1 +1,9 @@
 pub mod Decks
+pub mod Names
+pub mod Numbers
+pub mod Sections
+pub mod Spelling
+pub mod Faults
+pub mod Texts
+pub mod Known
+pub mod Seen

@@ -1,0 +1,11 @@
+pub mod Judging
+pub mod Keys
+pub mod Bounds
+pub mod Slices
+pub mod Growing
+pub mod Steps
+pub mod Reading
+pub mod Relations
+pub mod Keeping
+pub mod Shapes
+pub mod Kept

@@ -1,0 +1,23 @@
+use Rattle.std.proofs.Common.{sym, subst, ◌∙◌}
+use Rattle.mps_pairs.specs.declared.fault.DeckFault.{DeckFault}
+use Rattle.mps_pairs.specs.Texts.{answer, Refuses}
+use Rattle.mps_pairs.proofs.Reading.{starts_at, refuses, goes_on, at_end}
+use Rattle.mps_pairs.proofs.read.read_lines.Goals as goal
+
+pub loop-rest-init : goal.loop-rest-init
+loop-rest-init c = starts_at c.args.text.now _ _ c.requires.section c.requires.tables
+
+pub returns-in-Err-clause-fault : goal.returns-in-Err-clause-fault
+returns-in-Err-clause-fault c =
+    subst (λ (f : DeckFault). Refuses f (answer c.args.text.now)) (sym c.at_line.ensures)
+    (refuses c.in-Err.fault c.args.text.now c.loop-rest.rest.now c.first_piece.result.0.now c.first_piece.result.1.now c.loop-rest.current c.loop-rest.tables c.loop-rest.number c.loop-rest.invariant c.first_piece.ensures.pieces c.in-Err.ensures.fault)
+
+pub loop-rest-preserved : goal.loop-rest-preserved
+loop-rest-preserved c =
+    goes_on c.args.text.now c.loop-rest.rest.now c.first_piece.result.0.now c.first_piece.result.1.now c.loop-rest.current c.take_piece.new.current c.loop-rest.tables c.take_piece.new.tables c.loop-rest.number c.loop-rest.invariant c.first_piece.ensures.pieces c.first_piece.ensures.parts c.first_piece.ensures.some
+    c.in-Ok-false.ensures.fault c.in-Ok-false.ensures.section c.in-Ok-false.ensures.tables (sym c.in-Ok-false.field-0-test ∙ c.in-Ok-false.ensures.ends)
+
+pub returns-in-Ok-true-clause-deck : goal.returns-in-Ok-true-clause-deck
+returns-in-Ok-true-clause-deck c =
+    at_end c.args.text.now c.loop-rest.rest.now c.first_piece.result.0.now c.first_piece.result.1.now c.loop-rest.current c.loop-rest.tables c.take_piece.new.tables c.loop-rest.number c.loop-rest.invariant c.first_piece.ensures.pieces c.first_piece.ensures.parts
+    c.in-Ok-true.ensures.fault c.in-Ok-true.ensures.tables (sym c.in-Ok-true.field-0-test ∙ c.in-Ok-true.ensures.ends)
