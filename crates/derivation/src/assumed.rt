@@ -1,8 +1,8 @@
 //! The choices that are assumed in a run of unit propagation.
-ghost use Rattle.std.specs.Prelude.{◌≡◌, ◌<◌, ◌||◌, ℕ, All, [], ◌∷◌};
+ghost use Rattle.std.specs.Prelude.{◌≡◌, ◌<◌, ◌||◌, []};
 ghost use Rattle.nogoods.specs.declared.choice.Choice.{Choice as ChosenSide};
 ghost use Rattle.nogoods.specs.Choices.{same_choice};
-ghost use Rattle.derivation.specs.HintRuns.{NamesBelow, is_assumed};
+ghost use Rattle.derivation.specs.HintRuns.{NamesBelow};
 ghost use Rattle.derivation.specs.Flags.{flag_of, Shows};
 
 use nogoods::{Choice, Side};
