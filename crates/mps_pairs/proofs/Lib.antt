@@ -9,3 +9,4 @@ pub mod Relations
 pub mod Keeping
 pub mod Shapes
 pub mod Kept
+pub mod Behind

@@ -18,4 +18,6 @@ mod tables;
 
 pub use deck::{Deck, Entry, Letter, PairLine, Quantity, Row};
 pub use fault::{DeckFault, DeckWhy};
-pub use read::{read_deck, spelled_decks_keep, spelled_once, spelled_or_faulty};
+pub use read::{
+    read_deck, spelled_by_first_lines, spelled_decks_keep, spelled_once, spelled_or_faulty,
+};

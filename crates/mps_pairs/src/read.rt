@@ -1,5 +1,5 @@
 //! Reading a deck.
-ghost use Rattle.std.specs.Prelude.{◌≡◌, ◌+◌, ◌-◌, ◌<◌, ◌≤◌, ◌^◌, OnOk, IfOk, IfErr, Ok, Err, None, Some, ℕ, List, ◌⊎◌, [], length};
+ghost use Rattle.std.specs.Prelude.{◌≡◌, ◌+◌, ◌-◌, ◌<◌, ◌≤◌, ◌^◌, OnOk, IfOk, IfErr, Ok, Err, None, Some, ℕ, List, ◌⊎◌, [], ◌++◌, length, take};
 ghost use Rattle.mps_lex.specs.Lines.{line_of, lines_of};
 ghost use Rattle.mps_lex.specs.Shown.{seen_line};
 ghost use Rattle.mps_pairs.specs.declared.deck.Deck as spelled;
@@ -192,6 +192,12 @@ pub fn read_deck(alloc: Global, text: &[u8]) -> Result<(Deck, usize), DeckFault>
 /// A text spells at most one deck, up to one place.
 pub fn spelled_once()
     ensures { (text : List ℕ) (d e : spelled.Deck) (p q : ℕ) → Spells text d p → Spells text e q → (d ≡ e) × (p ≡ q) }
+{}
+
+/// The place behind the lines that spell a deck is in the text, and whatever follows them does not matter.
+pub fn spelled_by_first_lines()
+    ensures within { (text : List ℕ) (d : spelled.Deck) (p : ℕ) → Spells text d p → p ≤ length text }
+    ensures whatever_follows { (text more : List ℕ) (d : spelled.Deck) (p : ℕ) → Spells text d p → Spells (take p text ++ more) d p }
 {}
 
 /// A text has a first fault exactly where it spells no deck, and it has at most one.
