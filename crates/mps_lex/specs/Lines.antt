@@ -1,5 +1,5 @@
 -- How a text falls into lines, and a line into fields.
-use Rattle.std.specs.Prelude.{ℕ, ◌+◌, Bool, false, true, not, ◌&&◌, ◌||◌, ◌==◌, if◌then◌else◌, List, [], ◌∷◌, length}
+use Rattle.std.specs.Prelude.{ℕ, ◌+◌, Bool, false, not, ◌&&◌, ◌==◌, if◌then◌else◌, List, [], ◌∷◌, length}
 use Rattle.mps_lex.specs.declared.lines.LineKind.{LineKind}
 use Rattle.mps_lex.specs.Kinds.{Name, is_blank, fields, kind_of}
 

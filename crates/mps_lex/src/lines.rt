@@ -63,11 +63,7 @@ fn begins_blank(text: &[u8]) -> bool
 }
 
 /// The line of a piece of a text, with its number.
-pub fn line_of<'a>(
-    alloc: Global,
-    number: u32,
-    piece: &'a [u8],
-) -> Result<Line<'a>, AllocError>
+pub fn line_of<'a>(alloc: Global, number: u32, piece: &'a [u8]) -> Result<Line<'a>, AllocError>
     ensures { IfOk result (λ l. seen_line l ≡ line_of number piece.now) }
 {
     let without_lf = without_end(b'\n', piece);
