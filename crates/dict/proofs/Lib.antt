@@ -1,0 +1,14 @@
+pub mod Machine
+pub mod SparseSums
+pub mod Merges
+pub mod Commons
+pub mod Reduces
+pub mod Exchanges
+pub mod Enters
+pub mod Pivots
+pub mod Permutations
+pub mod Independence
+pub mod Dictionaries
+pub mod Determined
+pub mod Starts
+pub mod LawsOfDictionaries
