@@ -7,7 +7,7 @@ use Rattle.std.proofs.Math.IntN.{*ℤ-one, zero-*ℤ}
 use Rattle.lp_base.proofs.Ring.{mul_comm, mul_add_left, mul_add_right, mul_swap, mul_shuffle, mul_lt_right, mul_le_right, mul_cancel_right}
 use Rattle.lpcc_case.specs.Instance.{Instance}
 use Rattle.lpcc_case.specs.Points.{cost_at}
-use Rattle.lpcc_case.specs.Verdicts.{IsOptimal, IsInfeasible, IsUnbounded}
+use Rattle.lpcc_case.specs.Verdicts.{Verdict, Optimal, Infeasible, Unbounded, IsOptimal, IsInfeasible, IsUnbounded, IsTrueOf, SameVerdict}
 
 -- neither is lower, so the costs are equal
 equal_costs : (u v : ℤ) (k l : ℕ) → ((u *ℤ pos l) <ℤ (v *ℤ pos k) → ⊥) → ((v *ℤ pos k) <ℤ (u *ℤ pos l) → ⊥) → (u *ℤ pos l) ≡ (v *ℤ pos k)
@@ -41,7 +41,7 @@ cancel_scale a b (pos r) k l hs hk hl e =
     mul_cancel_right (r * k * l) a b (omega arith) e
 cancel_scale a b (negsuc r) k l hs hk hl e = absurd (omega (arith, ints))
 
-pub optimal-unique : (a : Instance) (n m : ℤ) (d e : ℕ) → pos 1 ≤ℤ a.scale → IsOptimal a n d → IsOptimal a m e → (n *ℤ pos e) ≡ (m *ℤ pos d)
+optimal-unique : (a : Instance) (n m : ℤ) (d e : ℕ) → pos 1 ≤ℤ a.scale → IsOptimal a n d → IsOptimal a m e → (n *ℤ pos e) ≡ (m *ℤ pos d)
 optimal-unique a n m d e scale one two =
     let p = one.0 in
     let q = two.0 in
@@ -65,15 +65,26 @@ below_is_lower u v k l hk hl h =
     let second = mul_le_right l (b *ℤ pos k) u least in
     omega (arith, ints, first, second, mul_swap b (pos l) (pos k))
 
-pub optimal-unbounded : (a : Instance) (n : ℤ) (d : ℕ) → IsOptimal a n d → IsUnbounded a → ⊥
+optimal-unbounded : (a : Instance) (n : ℤ) (d : ℕ) → IsOptimal a n d → IsUnbounded a → ⊥
 optimal-unbounded a n d best unbounded =
     let p = best.0 in
     let found = unbounded (neg_ℤ (pos (unsigned_abs (cost_at a p)))) in
     let q = found.0 in
     best.4 q found.1 (below_is_lower (cost_at a p) (cost_at a q) p.d q.d p.positive q.positive found.2)
 
-pub optimal-infeasible : (a : Instance) (n : ℤ) (d : ℕ) → IsOptimal a n d → IsInfeasible a → ⊥
+optimal-infeasible : (a : Instance) (n : ℤ) (d : ℕ) → IsOptimal a n d → IsInfeasible a → ⊥
 optimal-infeasible a n d best none = none best.0 best.2
 
-pub infeasible-unbounded : (a : Instance) → IsInfeasible a → IsUnbounded a → ⊥
+infeasible-unbounded : (a : Instance) → IsInfeasible a → IsUnbounded a → ⊥
 infeasible-unbounded a none unbounded = let found = unbounded (pos 0) in none found.0 found.1
+
+pub same-verdict : (a : Instance) (v w : Verdict) → pos 1 ≤ℤ a.scale → IsTrueOf a v → IsTrueOf a w → SameVerdict v w
+same-verdict a (Optimal n d) (Optimal m e) scale one two = optimal-unique a n m d e scale one two
+same-verdict a (Optimal n d) Infeasible scale one two = optimal-infeasible a n d one two
+same-verdict a (Optimal n d) Unbounded scale one two = optimal-unbounded a n d one two
+same-verdict a Infeasible (Optimal m e) scale one two = optimal-infeasible a m e two one
+same-verdict a Infeasible Infeasible scale one two = tt
+same-verdict a Infeasible Unbounded scale one two = infeasible-unbounded a one two
+same-verdict a Unbounded (Optimal m e) scale one two = optimal-unbounded a m e two one
+same-verdict a Unbounded Infeasible scale one two = infeasible-unbounded a two one
+same-verdict a Unbounded Unbounded scale one two = tt

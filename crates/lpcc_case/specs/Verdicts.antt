@@ -31,3 +31,15 @@ abbrev pub IsTrueOf : Instance → Verdict → Type 0
 IsTrueOf a (Optimal numerator denominator) = IsOptimal a numerator denominator
 IsTrueOf a Infeasible = IsInfeasible a
 IsTrueOf a Unbounded = IsUnbounded a
+
+-- the same verdict, and where both are optimal the same value as a fraction
+abbrev pub SameVerdict : Verdict → Verdict → Type 0
+SameVerdict (Optimal n d) (Optimal m e) = (n *ℤ pos e) ≡ (m *ℤ pos d)
+SameVerdict (Optimal n d) Infeasible = ⊥
+SameVerdict (Optimal n d) Unbounded = ⊥
+SameVerdict Infeasible (Optimal m e) = ⊥
+SameVerdict Infeasible Infeasible = Unit {0}
+SameVerdict Infeasible Unbounded = ⊥
+SameVerdict Unbounded (Optimal m e) = ⊥
+SameVerdict Unbounded Infeasible = ⊥
+SameVerdict Unbounded Unbounded = Unit {0}

@@ -1,11 +1,11 @@
 //! Laws that show that the definitions mean what they should.
-ghost use Rattle.std.specs.Prelude.{◌≡◌, ◌↔◌, ◌≤ℤ◌, ◌*ℤ◌, ℕ, ℤ, List, pos, true};
+ghost use Rattle.std.specs.Prelude.{◌↔◌, ◌≤ℤ◌, ℕ, List, pos};
 ghost use Rattle.nogoods.specs.declared.choice.Side.{Side as Member};
 ghost use Rattle.lpcc_case.specs.declared.constraint.Constraint.{Constraint as Relation};
 ghost use Rattle.lpcc_case.specs.Instance.{Instance};
 ghost use Rattle.lpcc_case.specs.Points.{Point, Meets, MeetsAll, IsTight, IsFeasible, IsLower, IsMultiple};
 ghost use Rattle.lpcc_case.specs.Pieces.{IsPiece, LiesIn};
-ghost use Rattle.lpcc_case.specs.Verdicts.{IsOptimal, IsInfeasible, IsUnbounded};
+ghost use Rattle.lpcc_case.specs.Verdicts.{Verdict, IsTrueOf, SameVerdict};
 
 /// No point is lower than itself.
 pub fn lower_is_irreflexive()
@@ -30,15 +30,8 @@ pub fn feasible_exactly_in_a_piece()
         IsFeasible a p ↔ ((sides : List Member) × IsPiece a sides × LiesIn a sides p) }
 {}
 
-/// Two true optimal verdicts have the same value, as fractions.
-pub fn optimal_value_is_unique()
-    ensures { (a : Instance) (n m : ℤ) (d e : ℕ) → pos 1 ≤ℤ a.scale →
-        IsOptimal a n d → IsOptimal a m e → (n *ℤ pos e) ≡ (m *ℤ pos d) }
-{}
-
-/// No two different verdicts are true of one instance.
-pub fn verdicts_exclude_each_other()
-    ensures optimal_or_infeasible { (a : Instance) (n : ℤ) (d : ℕ) → IsOptimal a n d → IsInfeasible a → ⊥ }
-    ensures optimal_or_unbounded { (a : Instance) (n : ℤ) (d : ℕ) → IsOptimal a n d → IsUnbounded a → ⊥ }
-    ensures infeasible_or_unbounded { (a : Instance) → IsInfeasible a → IsUnbounded a → ⊥ }
+/// Two verdicts that are true of one instance are the same: no two different ones are true, and
+/// two optimal ones have the same value.
+pub fn true_verdicts_are_the_same()
+    ensures { (a : Instance) (v w : Verdict) → pos 1 ≤ℤ a.scale → IsTrueOf a v → IsTrueOf a w → SameVerdict v w }
 {}

@@ -12,5 +12,5 @@ pub use constraint::{Constraint, Kind};
 pub use form::Form;
 pub use laws::{
     feasible_exactly_in_a_piece, lower_is_irreflexive, lower_is_transitive,
-    multiples_meet_the_same, optimal_value_is_unique, verdicts_exclude_each_other,
+    multiples_meet_the_same, true_verdicts_are_the_same,
 };
