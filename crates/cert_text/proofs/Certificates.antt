@@ -168,6 +168,11 @@ parts_of_text : (xs : List CertLine) → map line_bytes (cert_words (Infeasible 
 parts_of_text xs =
     ap (λ (t : List (List ℕ)). head_line ∷ kind_line ∷ t) (ap (λ (t : List (List ℕ)). t ++ [] ∷ []) (lines_spelled xs (end_words xs)) ∙ append_assoc (map line_text xs) (line_bytes (end_words xs) ∷ []) ([] ∷ []))
 
+whole_is : (ls a b rest : List (List ℕ)) (xs : List CertLine) → ls ≡ head_line ∷ a → a ≡ kind_line ∷ b → b ≡ map line_text xs ++ line_bytes (end_words xs) ∷ rest → rest ≡ [] ∷ [] → ls ≡ all_parts xs
+whole_is ls a b rest xs e f g h =
+    e ∙ ap (λ (t : List (List ℕ)). head_line ∷ t) f ∙ ap (λ (t : List (List ℕ)). head_line ∷ kind_line ∷ t) g
+    ∙ ap (λ (t : List (List ℕ)). head_line ∷ kind_line ∷ map line_text xs ++ line_bytes (end_words xs) ∷ t) h
+
 pub cert_takes : (text : List ℕ) (c : Cert) → cert_at (parts 10 text) ≡ Some c → Spells text c
 unfolding cert_at
 cert_takes text c e =
@@ -178,9 +183,7 @@ cert_takes text c e =
     let g = cond_some (is_finished f.0.1) (Infeasible f.0.0) c f.2 in
     let t = lines_take [] b.0 f.0 f.1 in
     let xs = f.0.0 in
-    let whole : ls ≡ all_parts xs =
-    after_takes head_line ls a.0 a.1 ∙ ap (λ (t : List (List ℕ)). head_line ∷ t) (after_takes kind_line a.0 b.0 b.1)
-    ∙ ap (λ (t : List (List ℕ)). head_line ∷ kind_line ∷ t) t.0 ∙ ap (λ (t : List (List ℕ)). head_line ∷ kind_line ∷ map line_text xs ++ line_bytes (end_words xs) ∷ t) (finished_takes f.0.1 g.0) in
+    let whole = whole_is ls a.0 b.0 f.0.1 xs (after_takes head_line ls a.0 a.1) (after_takes kind_line a.0 b.0 b.1) t.0 (finished_takes f.0.1 g.0) in
     let spelled : text ≡ spelling (Infeasible xs) =
     sym (join_with_byte-slice_split 10 text) ∙ ap (join_with_byte 10) (whole ∙ sym (parts_of_text xs)) ∙ joined_is_text (map line_bytes (cert_words (Infeasible xs))) in
     subst (Spells text) {x = Infeasible xs} g.1 (record { form = t.1 (All-nil IsLine); text_is = spelled })
