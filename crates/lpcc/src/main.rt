@@ -1,0 +1,37 @@
+//! `lpcc`, an exact global solver for linear programs with complementarity constraints.
+#![tactic(auto)]
+
+mod answer;
+mod judge;
+mod run;
+#[cfg(test)]
+mod tests;
+
+use answer::Answer;
+use lp_io::{StdSink, StdSource};
+use run::{give, run_alone};
+use std::io;
+use std::process::ExitCode;
+
+/// The words behind the program's name.
+fn words_of(rt: &HostRuntime) -> io::Result<Vec<String>> {
+    let words: Vec<String> = std::env::args(rt)?.skip(1).collect(rt.alloc())?;
+    Ok(words)
+}
+
+fn main(rt: HostRuntime) -> ExitCode {
+    let mut source = StdSource::over(rt.reader());
+    let mut sink = StdSink::over(io::writer(&rt));
+    let status = match words_of(&rt) {
+        Ok(words) => run_alone(rt.alloc(), &words, &mut source, &mut sink),
+        Err(fault) => {
+            if fault.kind() == io::ErrorKind::OutOfMemory {
+                give(Answer::NoMemory, &mut sink)
+            } else {
+                // A word that is no text is no word of a command.
+                give(Answer::Words, &mut sink)
+            }
+        }
+    };
+    ExitCode::from(status)
+}
