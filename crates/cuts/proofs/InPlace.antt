@@ -10,9 +10,9 @@ use Rattle.lpcc_case.specs.Cases.{IsCase, NamesInequality}
 use Rattle.lp_base.specs.Ascending.{ascends_by}
 
 -- a pair's members are constraints of the case
-pub members_within : (a : Instance) (k : ℕ) → IsCase a → k < length a.pairs → ((get_or a.pairs k (0, 0)).0 < length a.constraints) × ((get_or a.pairs k (0, 0)).1 < length a.constraints)
-members_within a k kept h =
-    let both = All-get_or (λ p. NamesInequality a.constraints p.0 × NamesInequality a.constraints p.1) a.pairs k (0, 0) h kept.pairs in
+pub members_within : (a : Instance) (k : ℕ) (d : ℕ × ℕ) → IsCase a → k < length a.pairs → ((get_or a.pairs k d).0 < length a.constraints) × ((get_or a.pairs k d).1 < length a.constraints)
+members_within a k d kept h =
+    let both = All-get_or (λ p. NamesInequality a.constraints p.0 × NamesInequality a.constraints p.1) a.pairs k d h kept.pairs in
     (slice_get_within _ _ _ both.0.1, slice_get_within _ _ _ both.1.1)
 
 both_tests : (b c : Bool) → IsTrue (b && c) → IsTrue b × IsTrue c

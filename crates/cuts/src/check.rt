@@ -9,8 +9,9 @@ use crate::{Cut, CutFault};
 use lpcc_case::Case;
 use nogoods::NoGood;
 
-/// Tests a ray cut, given by its parts, in time linear in the terms of its constraints. It takes
-/// no memory.
+/// Tests a ray cut, given by its no-good and its multipliers, each with the number of its
+/// constraint, counted from 0. The first fault counts, in the order in which `CutFault` lists
+/// them. It takes no memory, and time linear in the choices and in the terms of the constraints.
 pub fn check_ray(case: &Case, ng: &NoGood, mult: &[(u32, i64)]) -> Result<(), CutFault>
     ensures judged { IsJudged case.now (cut_of.Ray ng.now mult.now) result }
 {
@@ -29,8 +30,8 @@ pub fn check_ray(case: &Case, ng: &NoGood, mult: &[(u32, i64)]) -> Result<(), Cu
     Ok(())
 }
 
-/// Tests a point cut, given by its parts, in time linear in the terms of its constraints. It
-/// takes no memory.
+/// Tests a point cut, given by its parts as in `check_ray`, where the weighed sum of the
+/// constraints is to be `e` times the cost, at least `v`.
 pub fn check_point(
     case: &Case,
     ng: &NoGood,
@@ -55,7 +56,7 @@ pub fn check_point(
     Ok(())
 }
 
-/// Tests a cut. The first fault counts, in the order in which `CutFault` lists them.
+/// Tests a cut, as `check_ray` and `check_point` do for its parts.
 pub fn check_cut(case: &Case, cut: &Cut) -> Result<(), CutFault>
     ensures judged { IsJudged case.now cut.now result }
 {
