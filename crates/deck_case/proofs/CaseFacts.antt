@@ -22,7 +22,8 @@ use Rattle.mps_pairs.specs.declared.deck.Letter.TheVariants.{N, G}
 use Rattle.mps_pairs.specs.declared.deck.Quantity.{Quantity}
 use Rattle.mps_pairs.specs.declared.deck.Quantity.TheVariants.{Col}
 use Rattle.mps_pairs.specs.declared.deck.Row.{Row}
-use Rattle.deck_case.specs.DeckCases.{at_least, case_of_deck, coefficient, column_constraints, constraints_of, cost_of, is_nonzero, lower_bound, lower_number, offset_of, pair_of, row_constraints, side_number, sides_by_letter, sides_of, term_of, terms_of}
+use Rattle.lpcc_case.specs.Points.{coefficient}
+use Rattle.deck_case.specs.DeckCases.{at_least, case_of_deck, column_constraints, constraints_of, cost_of, is_nonzero, lower_bound, lower_number, offset_of, pair_of, row_constraints, side_number, sides_by_letter, sides_of, term_of, terms_of}
 use Rattle.deck_case.proofs.CostSteps.{coefficient_keeps}
 use Rattle.deck_case.proofs.Rising.{ascends-filter, ascends-map}
 use Rattle.deck_case.proofs.RowSteps.{all_left}

@@ -10,7 +10,7 @@ use Rattle.lp_base.specs.Ascending.{ascends_by}
 use Rattle.lp_base.proofs.SumLaws.{sum_over-append}
 use Rattle.lpcc_case.specs.Cases.{column_of}
 use Rattle.deck_case.proofs.Rising.{ascends-tail, head_below}
-use Rattle.deck_case.specs.DeckCases.{coefficient}
+use Rattle.lpcc_case.specs.Points.{coefficient}
 
 -- what a term adds to the coefficient of a column
 abbrev part : ℕ → ℕ × ℤ → ℤ

@@ -10,7 +10,8 @@ use Rattle.lp_base.specs.Sums.{sum_over, dot}
 use Rattle.lp_base.proofs.Ring.{mul_add_right}
 use Rattle.lpcc_case.specs.Points.{left_side}
 use Rattle.mps_pairs.specs.declared.deck.Entry.{Entry}
-use Rattle.deck_case.specs.DeckCases.{coefficient, is_nonzero, term_of}
+use Rattle.lpcc_case.specs.Points.{coefficient}
+use Rattle.deck_case.specs.DeckCases.{is_nonzero, term_of}
 use Rattle.deck_case.specs.DeckPoints.{column_value}
 
 -- ---- the terms of entries have the sum of the entries

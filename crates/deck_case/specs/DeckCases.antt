@@ -8,6 +8,7 @@ use Rattle.lpcc_case.specs.declared.constraint.Constraint.{Constraint}
 use Rattle.lpcc_case.specs.declared.constraint.Kind.TheVariants.{Ge}
 use Rattle.lpcc_case.specs.Cases.{instance_of}
 use Rattle.lpcc_case.specs.Instance.{Instance}
+use Rattle.lpcc_case.specs.Points.{coefficient}
 use Rattle.mps_pairs.specs.Decks.{entries_of}
 use Rattle.mps_pairs.specs.declared.deck.Deck.{Deck}
 use Rattle.mps_pairs.specs.declared.deck.Entry.{Entry}
@@ -61,10 +62,6 @@ abbrev pub constraints_of : Deck → List Constraint
 constraints_of d = row_constraints d ++ column_constraints d.columns
 
 -- ---- the objective, whose numbers are whole, so that its scale is 1
-
--- the coefficient of a column in a row with these terms, which names a column once at most
-abbrev pub coefficient : List (ℕ × ℤ) → ℕ → ℤ
-coefficient terms column = sum_over (λ t. if t.0 == column then t.1 else pos 0) terms
 
 abbrev pub cost_of : Deck → List ℤ
 cost_of d = map (coefficient (terms_of d.entries d.objective)) (range_with_len 0 d.columns)

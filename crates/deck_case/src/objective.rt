@@ -4,7 +4,8 @@ ghost use Rattle.std.specs.List.{range_with_len};
 ghost use Rattle.lp_base.specs.Ascending.{ascends_by};
 ghost use Rattle.lpcc_case.specs.Cases.{column_of};
 ghost use Rattle.mps_pairs.specs.Decks.{IsDeck};
-ghost use Rattle.deck_case.specs.DeckCases.{coefficient, cost_of, offset_of, terms_of};
+ghost use Rattle.lpcc_case.specs.Points.{coefficient};
+ghost use Rattle.deck_case.specs.DeckCases.{cost_of, offset_of, terms_of};
 
 use crate::rows::Terms;
 use lp_base::Sequence;

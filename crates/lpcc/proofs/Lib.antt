@@ -1,3 +1,4 @@
 pub mod Wording
 pub mod Judging
 pub mod Statuses
+pub mod Exact

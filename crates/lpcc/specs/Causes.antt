@@ -48,6 +48,17 @@ is_free NoCertificate = false
 is_free NotAccepted = false
 is_free Infeasible = false
 
+-- answers that the bytes decide
+abbrev pub is_shown : Answer → Bool
+is_shown Words = false
+is_shown ReadFault = false
+is_shown TooLong = true
+is_shown NoDeck = true
+is_shown NoCertificate = true
+is_shown NotAccepted = true
+is_shown Infeasible = true
+is_shown NoMemory = false
+
 -- the cause of an answer to the command `check` in the bytes of the input; words, faults and memory have theirs elsewhere
 abbrev pub IsCause : List ℕ → Answer → Type 0
 IsCause bytes TooLong = MOST_BYTES < length bytes

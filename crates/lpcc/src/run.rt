@@ -3,9 +3,11 @@ ghost use Rattle.std.specs.Prelude.{◌≡◌, ◌<◌, ◌↔◌, ◌⊎◌, �
 ghost use Rattle.std.specs.Io.KnownBytes.{Appends};
 ghost use Rattle.lp_io.specs.Faults.{Rose};
 ghost use Rattle.lpcc.specs.declared.answer.Answer.{Answer as Response};
-ghost use Rattle.lpcc.specs.declared.answer.Answer.TheVariants.{Words, ReadFault, TooLong, NoCertificate, NotAccepted, Infeasible};
+ghost use Rattle.lpcc.specs.declared.answer.Answer.TheVariants.{Words, ReadFault, NoCertificate, NotAccepted, Infeasible};
 ghost use Rattle.lpcc.specs.Answers.{status_of, text_of};
-ghost use Rattle.lpcc.specs.Causes.{IsCause, ShowsCase, ShowsNoCase, is_free};
+ghost use Rattle.lpcc_case.specs.Instance.{Instance};
+ghost use Rattle.lpcc_case.specs.Verdicts.{IsInfeasible};
+ghost use Rattle.lpcc.specs.Causes.{IsCause, ShowsCase, ShowsNoCase, SpellsCase, is_free, is_shown};
 ghost use Rattle.lpcc.specs.Runs.{IsAnswer, IsCheck, IsWritten};
 
 use crate::answer::Answer;
@@ -95,9 +97,16 @@ pub fn run_alone<S: Source, K: Sink>(
         ShowsCase bytes NoCertificate ⊎ ShowsCase bytes NotAccepted }
     ensures refused { result ≡ 3 → (bytes : List ℕ) → S.left src.old ≡ Some bytes →
         (MOST_BYTES < length bytes) ⊎ ShowsNoCase bytes }
-    ensures too_long { IsCheck (map string_bytes words.now) → (bytes : List ℕ) → S.left src.old ≡ Some bytes →
-        MOST_BYTES < length bytes → (answer : Response) × ((answer ≡ TooLong) ⊎ IsTrue (is_free answer))
+
+    // Each answer to `check` comes wherever the bytes are its cause, unless reading fails or memory runs out.
+    ensures exact { IsCheck (map string_bytes words.now) → (bytes : List ℕ) → S.left src.old ≡ Some bytes →
+        (expected : Response) → IsTrue (is_shown expected) → IsCause bytes expected →
+        (answer : Response) × ((answer ≡ expected) ⊎ IsTrue (is_free answer))
         × IsWritten (K.taken out.old) (K.taken out.new) (K.faults out.old) (K.faults out.new) answer result }
+
+    // At status 0 the case of the deck that the bytes spell has no feasible point.
+    ensures infeasible { result ≡ 0 → (bytes : List ℕ) → S.left src.old ≡ Some bytes →
+        (a : Instance) × (place : ℕ) × SpellsCase bytes a place × IsInfeasible a }
 {
     let answer = answer_to(alloc, words, src);
     give(answer, out)

@@ -1,5 +1,5 @@
 -- An instance of a linear program with complementarity constraints, over whole numbers of any size.
-use Rattle.std.specs.Prelude.{ℕ, ℤ, pos, List, [], slice_index_or}
+use Rattle.std.specs.Prelude.{ℕ, ℤ, pos, List, [], length, slice_index_or}
 use Rattle.nogoods.specs.declared.choice.Choice.{Choice}
 use Rattle.nogoods.specs.declared.choice.Side.{Side}
 use Rattle.nogoods.specs.declared.choice.Side.TheVariants.{A, B}
@@ -15,7 +15,7 @@ pub record Instance : Type 0 where
   pub constraints : List Constraint
   pub pairs : List (ℕ × ℕ)
 
--- 0 = 0, which every point meets: what stands at a number past the last constraint
+-- 0 = 0, which every point meets with equality: what stands at a number past the last constraint
 abbrev pub no_constraint : Constraint
 no_constraint = record { kind = Eq; terms = []; rhs = pos 0 }
 
@@ -27,9 +27,13 @@ abbrev pub member : ℕ × ℕ → Side → ℕ
 member pair A = pair.0
 member pair B = pair.1
 
+-- the pair of this number; past the last pair stands one whose members are past the last constraint
+abbrev pub pair_at : Instance → ℕ → ℕ × ℕ
+pair_at a k = slice_index_or a.pairs k (length a.constraints, length a.constraints)
+
 -- the number of the constraint that a choice makes tight
 abbrev pub chosen_number : Instance → Choice → ℕ
-chosen_number a c = member (slice_index_or a.pairs c.pair (0, 0)) c.side
+chosen_number a c = member (pair_at a c.pair) c.side
 
 abbrev pub chosen : Instance → Choice → Constraint
 chosen a c = constraint_at a (chosen_number a c)

@@ -1,5 +1,5 @@
 -- Points with a denominator, and what they meet. Every fraction is multiplied out, so all numbers are whole.
-use Rattle.std.specs.Prelude.{◌≡◌, ◌<◌, ◌*◌, ℕ, ℤ, pos, ◌*ℤ◌, ◌≤ℤ◌, ◌<ℤ◌, List, All, ◌⊎◌, length, map, slice_index_or}
+use Rattle.std.specs.Prelude.{◌≡◌, ◌<◌, ◌*◌, ℕ, ℤ, pos, ◌*ℤ◌, ◌≤ℤ◌, ◌<ℤ◌, List, All, ◌⊎◌, length, map, nat_eq, slice_index_or, if◌then◌else◌}
 use Rattle.lp_base.specs.Sums.{sum_over, dot}
 use Rattle.nogoods.specs.declared.choice.Choice.{Choice}
 use Rattle.lpcc_case.specs.declared.constraint.Constraint.{Constraint}
@@ -17,6 +17,10 @@ pub record Point (columns : ℕ) : Type 0 where
 -- the left side of a constraint with these terms
 abbrev pub left_side : List (ℕ × ℤ) → List ℤ → ℤ
 left_side terms x = sum_over (λ t. t.1 *ℤ slice_index_or x t.0 (pos 0)) terms
+
+-- the coefficient of column j in these terms
+abbrev pub coefficient : List (ℕ × ℤ) → ℕ → ℤ
+coefficient terms j = sum_over (λ t. if nat_eq t.0 j then t.1 else pos 0) terms
 
 abbrev pub Relates : Kind → ℤ → ℤ → Type 0
 Relates Ge left right = right ≤ℤ left

@@ -6,7 +6,7 @@ use Rattle.mps_lex.specs.declared.lines.Section.TheVariants.{Name as NameSection
 use Rattle.mps_lex.specs.declared.lines.LineKind.{LineKind}
 use Rattle.mps_lex.specs.declared.lines.LineKind.TheVariants.{Blank, Comment, Head, LeftOut, Unknown, Entry}
 
--- any bytes but blanks
+-- the bytes of a field
 abbrev pub Name : Type 0
 Name = List ℕ
 

@@ -1,4 +1,6 @@
--- The fault of a line: that line and the lines before it decide.
+-- The fault of a line: that line and the lines before it decide. What is read so far are thin decks: the heads NAME,
+-- ROWS, COLUMNS, RHS, PAIRS and ENDATA, each once and in this order, N in the first row and G in each other, one entry
+-- a line, whole numbers, and lines that end with LF alone. What the format has besides is the fault NotYet.
 use Rattle.std.specs.Prelude.{ℕ, ◌+◌, Bool, not, ◌&&◌, ◌||◌, nat_le, nat_lt, is_none, codes, if◌then◌else◌, List, [], ◌∷◌, ◌++◌, length, map, Option, Some, None}
 use Rattle.std.specs.Str.{bytes_eq}
 use Rattle.mps_lex.specs.Kinds.{Name}

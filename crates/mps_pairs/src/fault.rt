@@ -5,8 +5,9 @@ ghost use Rattle.mps_pairs.specs.declared.fault.Fault.TheVariants.{Memory};
 use std::alloc::{AllocError, AllocFailed};
 use thiserror::Error;
 
-/// The fault of a line. Within one data line the count of fields is judged first, then letters and
-/// kinds, set names, names that stand already, and last, from left to right, each name with its value.
+/// The fault of a line. Within one data line markers of integer columns are judged first, then the
+/// count of fields, letters and kinds, set names, names that stand already, from left to right each
+/// name with its value, and last whether there is one too many.
 #[derive(Clone, Copy, Debug, PartialEq, Eq)]
 pub enum DeckWhy {
     /// A single word at the margin that is no section.
@@ -41,7 +42,7 @@ pub enum DeckWhy {
     TooMany,
     /// The text has no ENDATA.
     NotClosed,
-    /// Free MPS has this line, but it is not read yet.
+    /// A line outside what is read so far.
     NotYet,
 }
 

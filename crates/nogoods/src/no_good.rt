@@ -1,4 +1,4 @@
-//! Sets of choices that no feasible point keeps together.
+//! Sets of choices without both sides of a pair.
 ghost use Rattle.std.specs.Prelude.{◌≡◌, ◌↔◌, IfOk, IfSome, IsSome, IsTrue};
 ghost use Rattle.nogoods.specs.Choices.{pairs_ascend};
 

@@ -3,7 +3,8 @@ use Rattle.std.specs.List.{range_with_len}
 use Rattle.std.proofs.lemmas.List.FromFn.{length-map-range_with_len}
 use Rattle.lp_base.specs.Ascending.{ascends_by}
 use Rattle.lpcc_case.specs.Cases.{column_of}
-use Rattle.deck_case.specs.DeckCases.{coefficient, terms_of}
+use Rattle.lpcc_case.specs.Points.{coefficient}
+use Rattle.deck_case.specs.DeckCases.{terms_of}
 use Rattle.deck_case.proofs.CaseFacts.{objective_within, terms_ascend, terms_named, terms_read}
 use Rattle.deck_case.proofs.objective.cost.Goals as goal
 

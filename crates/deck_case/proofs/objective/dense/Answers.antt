@@ -2,7 +2,7 @@ use Rattle.std.proofs.Common.{◌∙◌, ap, arith, rules, pos, get_or, length-s
 use Rattle.std.proofs.lemmas.List.{take_all}
 use Rattle.std.proofs.lemmas.List.FromFn.{fill_by_all}
 use Rattle.lp_base.proofs.Machine.{again_64}
-use Rattle.deck_case.specs.DeckCases.{coefficient}
+use Rattle.lpcc_case.specs.Points.{coefficient}
 use Rattle.deck_case.proofs.CostSteps.{written}
 use Rattle.deck_case.proofs.objective.dense.Goals as goal
 

@@ -1,5 +1,5 @@
 use Rattle.std.proofs.Common.{◌≡◌, ℕ, ◌<◌, pos, length, get_or, take}
-use Rattle.deck_case.specs.DeckCases.{coefficient}
+use Rattle.lpcc_case.specs.Points.{coefficient}
 use Rattle.deck_case.proofs.objective.dense.Given as goal
 
 abbrev pub invariant-loop-column : goal.invariant-loop-column
