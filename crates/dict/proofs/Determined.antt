@@ -123,13 +123,13 @@ EachTimes d k [] = ⊤
 EachTimes d k (t ∷ ts) = (d ∣ k * unsigned_abs t.1) × EachTimes d k ts
 
 -- the same of s and the terms
-record Common (s : ℕ) (ts : List (ℕ × ℤ)) : Type 0 where
-  g : ℕ
-  first : g ∣ s
-  each : DividesEach g ts
-  times : (d k : ℕ) → d ∣ k * s → EachTimes d k ts → d ∣ k * g
+pub record Common (s : ℕ) (ts : List (ℕ × ℤ)) : Type 0 where
+  pub g : ℕ
+  pub first : g ∣ s
+  pub each : DividesEach g ts
+  pub times : (d k : ℕ) → d ∣ k * s → EachTimes d k ts → d ∣ k * g
 
-common_of : (s : ℕ) (ts : List (ℕ × ℤ)) → Common s ts
+pub common_of : (s : ℕ) (ts : List (ℕ × ℤ)) → Common s ts
 common_of s [] = record { g = s; first = dvd_refl s; each = tt; times = λ d k h all. h }
 common_of s (t ∷ ts) =
     let b = bezout (unsigned_abs t.1 + 1) s (unsigned_abs t.1) (omega arith) in

@@ -12,3 +12,4 @@ pub mod Dictionaries
 pub mod Determined
 pub mod Starts
 pub mod LawsOfDictionaries
+pub mod Renumberings

@@ -8,7 +8,7 @@ use Rattle.lpcc_case.specs.declared.form.Form.TheVariants.{Col, Con, Cost}
 use Rattle.lpcc_case.specs.Instance.{Instance, constraint_at}
 use Rattle.dict.specs.Terms.{weigh, coefficient}
 use Rattle.dict.specs.Equations.{Equation, equation, Holds, IsRow, Divides, number_at}
-use Rattle.dict.specs.Dictionaries.{Dictionary, row_at, form_at, AllHold, basic_after, nonbasic_after}
+use Rattle.dict.specs.Dictionaries.{Dictionary, row_at, form_at, entry_at, AllHold, basic_after, nonbasic_after}
 
 -- an affine function of the columns: what it is worth where column j is worth x j, and 1 is worth one
 abbrev pub Affine : Type 0
@@ -58,6 +58,17 @@ with_rows rows d = record { rows = rows; basic = d.basic; nonbasic = d.nonbasic 
 -- the forms after an exchange; the rows are as before
 abbrev pub after_exchange : ℕ → ℕ → Dictionary → Dictionary
 after_exchange row col d = record { rows = d.rows; basic = basic_after row col d; nonbasic = nonbasic_after row col d }
+
+-- what stands at place j of the one list stands at place to j of the other
+pub record IsRenumbering (to : ℕ → ℕ) (xs ys : List Form) : Type 0 where
+  pub within : (j : ℕ) → j < length xs → to j < length ys
+  pub same : (j : ℕ) → j < length xs → form_at ys (to j) ≡ form_at xs j
+
+-- the one has the numbers of the other, at the places of the same forms
+pub record IsRenumbered (places rows : ℕ → ℕ) (d t : Dictionary) : Type 0 where
+  pub den : (k : ℕ) → k < length t.rows → (row_at t.rows k).den ≡ (row_at d.rows (rows k)).den
+  pub constant : (k : ℕ) → k < length t.rows → (row_at t.rows k).constant ≡ (row_at d.rows (rows k)).constant
+  pub entry : (k j : ℕ) → k < length t.rows → j < length t.nonbasic → entry_at t k j ≡ entry_at d (rows k) (places j)
 
 -- one of its numbers is not narrow
 pub record IsWideDictionary (d : Dictionary) : Type 0 where

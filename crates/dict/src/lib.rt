@@ -15,3 +15,6 @@ mod start;
 
 pub use dictionary::Dict;
 pub use fault::{PivotFault, Wide};
+
+#[cfg(test)]
+mod tests;

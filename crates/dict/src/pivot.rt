@@ -139,6 +139,6 @@ pub fn pivot_rows(
             rows[row] = entering;
             Ok(Ok(()))
         },
-        Err(at) => Ok(Err(at)),
+        Err(place) => Ok(Err(place)),
     }
 }
