@@ -1,9 +1,8 @@
 -- The case of a deck: each constraint from its row or its column alone, the rows in file order and then the columns.
-use Rattle.std.specs.Prelude.{◌≡◌, ◌≤◌, ◌<◌, ◌+◌, ◌++◌, ◌==◌, if◌then◌else◌, not, ℕ, ℤ, Bool, pos, neg_ℤ, List, [], ◌∷◌, filter, flat_map, length, map, slice_get}
+use Rattle.std.specs.Prelude.{◌≡◌, ◌≤◌, ◌<◌, ◌+◌, ◌++◌, not, ℕ, ℤ, Bool, pos, neg_ℤ, List, [], ◌∷◌, filter, flat_map, length, map, slice_get}
 use Rattle.std.specs.List.{enumerate_from, range_with_len}
 use Rattle.std.specs.Option.{option_map_or}
 use Rattle.std.specs.Ordering.{int_eq}
-use Rattle.lp_base.specs.Sums.{sum_over}
 use Rattle.lpcc_case.specs.declared.constraint.Constraint.{Constraint}
 use Rattle.lpcc_case.specs.declared.constraint.Kind.TheVariants.{Ge}
 use Rattle.lpcc_case.specs.Cases.{instance_of}

@@ -1,5 +1,5 @@
 -- The bytes of an input are the cause of one answer at most.
-use Rattle.std.proofs.Common.{ℕ, ◌<◌, ◌≤◌, ◌≡◌, ◌∙◌, refl, sym, ap, subst, arith, true, false, List, length, drop, ◌⊎◌, inl, inr}
+use Rattle.std.proofs.Common.{ℕ, ◌≡◌, ◌∙◌, refl, sym, ap, subst, arith, List, drop, ◌⊎◌, inl, inr}
 use Rattle.std.specs.Prelude.{IsTrue}
 use Rattle.lpcc_case.specs.Instance.{Instance}
 use Rattle.mps_pairs.proofs.Relations.{one_deck}
@@ -9,10 +9,9 @@ use Rattle.cert_text.proofs.Certificates.{one_certificate}
 use Rattle.cert_check.specs.Acceptance.{Accepts}
 use Rattle.cert_check.proofs.Refutation.{refutes}
 use Rattle.lpcc_case.specs.Verdicts.{IsInfeasible}
-use Rattle.lpcc.specs.declared.judge.TheConstants.{MOST_BYTES}
 use Rattle.lpcc.specs.declared.answer.Answer.{Answer}
 use Rattle.lpcc.specs.declared.answer.Answer.TheVariants.{Words, ReadFault, TooLong, NoDeck, NoCertificate, NotAccepted, Infeasible, NoMemory}
-use Rattle.lpcc.specs.Causes.{SpellsCase, ShowsBehind, ShowsCase, ShowsNoCase, IsCause, is_free, is_shown}
+use Rattle.lpcc.specs.Causes.{SpellsCase, ShowsBehind, ShowsCase, IsCause, is_free, is_shown}
 
 -- the bytes begin with one deck at most, and it has one case
 one_case : (bytes : List ℕ) (a b : Instance) (p q : ℕ) → SpellsCase bytes a p → SpellsCase bytes b q → (a ≡ b) × (p ≡ q)

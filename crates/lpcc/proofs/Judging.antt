@@ -1,5 +1,5 @@
 -- Why the answers of `check` have their causes in the bytes.
-use Rattle.std.proofs.Common.{ℕ, ◌+◌, ◌-◌, ◌<◌, ◌≤◌, ◌≡◌, ◌∙◌, refl, sym, ap, subst, arith, true, false, List, length, drop, take, length-drop, Result, Ok, Err, ◌⊎◌, inl, inr}
+use Rattle.std.proofs.Common.{ℕ, ◌-◌, ◌≤◌, ◌≡◌, ◌∙◌, ap, subst, arith, List, length, drop, take, length-drop, Ok, Err}
 use Rattle.std.proofs.lemmas.List.{take_all}
 use Rattle.lpcc_case.specs.Instance.{Instance}
 use Rattle.mps_pairs.specs.declared.deck.Deck.{Deck}
@@ -7,19 +7,19 @@ use Rattle.mps_pairs.specs.declared.fault.DeckWhy.{DeckWhy}
 use Rattle.mps_pairs.specs.declared.fault.DeckFault.{DeckFault}
 use Rattle.mps_pairs.specs.declared.fault.DeckFault.TheVariants.{At}
 use Rattle.mps_pairs.specs.Texts.{Spells, Gives, Answer as Reading}
-use Rattle.deck_case.specs.DeckCases.{HasCase, HasTooMany, constraints_of}
+use Rattle.deck_case.specs.DeckCases.{HasTooMany, constraints_of}
 use Rattle.lpcc.specs.declared.answer.Answer.{Answer}
 use Rattle.lpcc.specs.declared.answer.Answer.TheVariants.{Words, ReadFault, TooLong, NoDeck, NoCertificate, NotAccepted, Infeasible, NoMemory}
 use Rattle.lpcc.specs.declared.judge.TheConstants.{MOST_BYTES}
-use Rattle.lpcc.specs.Causes.{SpellsCase, ShowsBehind, ShowsCase, ShowsNoCase, IsCause}
+use Rattle.lpcc.specs.Causes.{SpellsCase, ShowsBehind, ShowsNoCase, IsCause}
 
 -- a text with a fault spells no deck
 pub no_deck : (bytes : List ℕ) (f : DeckFault) (line : ℕ) (why : DeckWhy) → length bytes ≤ MOST_BYTES → f ≡ At line why → ((d : Deck) (place : ℕ) → Spells bytes d place → Gives (Err f) (Ok (d, place))) → ShowsNoCase bytes
 no_deck bytes f line why short is only = record {
   short = short;
   none = λ a place s.
-    let given = subst (λ (x : DeckFault). Gives (Err x) (Ok (s.0, place))) is (only s.0 place s.1) in
-    absurd (cc given);
+      let given = subst (λ (x : DeckFault). Gives (Err x) (Ok (s.0, place))) is (only s.0 place s.1) in
+      absurd (cc given);
 }
 
 -- the deck that is read is the only one that is spelled
@@ -36,10 +36,10 @@ pub too_many : (bytes : List ℕ) (e : Deck) (other : ℕ) → length bytes ≤ 
 too_many bytes e other short only many = record {
   short = short;
   none = λ a place s.
-    let same : s.0 ≡ e = same_deck bytes s.0 e place other only s.1 in
-    let few : length a.constraints ≤ 2000 = s.2.few in
-    let all : length a.constraints ≡ length (constraints_of e) = ap (λ x. length x.constraints) s.2.made ∙ ap (λ d. length (constraints_of d)) same in
-    omega arith;
+      let same : s.0 ≡ e = same_deck bytes s.0 e place other only s.1 in
+      let few : length a.constraints ≤ 2000 = s.2.few in
+      let all : length a.constraints ≡ length (constraints_of e) = ap (λ x. length x.constraints) s.2.made ∙ ap (λ d. length (constraints_of d)) same in
+      omega arith;
 }
 
 -- what stands behind the deck

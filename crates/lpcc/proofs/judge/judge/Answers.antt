@@ -1,4 +1,4 @@
-use Rattle.std.proofs.Common.{ℕ, List, arith, subst}
+use Rattle.std.proofs.Common.{ℕ, List, subst}
 use Rattle.lpcc.specs.Causes.{ShowsBehind}
 use Rattle.lpcc.proofs.Judging.{no_deck, too_many, behind, rest_is}
 use Rattle.lpcc.proofs.judge.judge.Goals as goal
