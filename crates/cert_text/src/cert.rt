@@ -1,11 +1,32 @@
-//! Certificates as plain data. Pairs, constraints and lines are counted from 0.
+//! Certificates as plain data. Pairs, columns, constraints and lines are counted from 0.
 use lp_base::Sequence;
 use nogoods::NoGood;
 
-/// What a certificate claims, with the lines that show it.
+/// What a certificate claims, with what shows it.
 #[derive(Drop)]
 pub enum Cert {
+    /// The point is feasible and `z` is its cost times its denominator; the lines show that no
+    /// feasible point is lower.
+    Optimal {
+        point: CertPoint,
+        z: i128,
+        lines: Sequence<CertLine>,
+    },
+    /// The lines show that no point is feasible.
     Infeasible { lines: Sequence<CertLine> },
+    /// From a point of the piece the ray can be followed without end, the cost falling.
+    Unbounded {
+        piece: NoGood,
+        point: CertPoint,
+        ray: Sequence<(u32, i64)>,
+    },
+}
+
+/// The point whose column at each term has the term's number over `d`, and every other column 0.
+#[derive(Drop)]
+pub struct CertPoint {
+    pub d: i64,
+    pub terms: Sequence<(u32, i64)>,
 }
 
 /// A no-good with its reason: a ray cut or a point cut with multipliers on constraints, or hints,

@@ -3,3 +3,4 @@ pub mod Cases
 pub mod Points
 pub mod Pieces
 pub mod Verdicts
+pub mod NarrowPoints

@@ -40,10 +40,14 @@ MeetsAll a p = All (Meets p) a.constraints
 abbrev pub IsTightAt : (a : Instance) → Point a.columns → List Choice → Type 0
 IsTightAt a p choices = All (λ c. IsTight p (chosen a c)) choices
 
+-- in each pair at least one member is tight
+abbrev pub IsComplementary : (a : Instance) → Point a.columns → Type 0
+IsComplementary a p = All (λ pair. IsTight p (constraint_at a pair.0) ⊎ IsTight p (constraint_at a pair.1)) a.pairs
+
 -- all constraints are met, and in each pair at least one member is tight
 pub record IsFeasible (a : Instance) (p : Point a.columns) : Type 0 where
   pub met : MeetsAll a p
-  pub complementary : All (λ pair. IsTight p (constraint_at a pair.0) ⊎ IsTight p (constraint_at a pair.1)) a.pairs
+  pub complementary : IsComplementary a p
 
 -- the cost of a point, times its denominator
 abbrev pub cost_at : (a : Instance) → Point a.columns → ℤ

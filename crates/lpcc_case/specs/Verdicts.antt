@@ -1,13 +1,10 @@
 -- The verdicts on an instance, and when each is true. They know nothing of pieces, cuts or rays.
 use Rattle.std.specs.Prelude.{◌≡◌, ◌<◌, ℕ, ℤ, pos, ◌+ℤ◌, ◌*ℤ◌, ◌<ℤ◌}
+use Rattle.lp_nums.specs.Fractions.{SameValue}
+use Rattle.lpcc_case.specs.declared.verdict.Verdict.{Verdict}
+use Rattle.lpcc_case.specs.declared.verdict.Verdict.TheVariants.{Optimal, Infeasible, Unbounded}
 use Rattle.lpcc_case.specs.Instance.{Instance}
 use Rattle.lpcc_case.specs.Points.{Point, IsFeasible, IsLower, cost_at}
-
--- the optimal value is a fraction, numerator and denominator
-pub data Verdict : Type 0 where
-  Optimal : ℤ → ℕ → Verdict
-  Infeasible : Verdict
-  Unbounded : Verdict
 
 -- (cost x + offset) / scale at the point is numerator / denominator
 abbrev pub HasValue : (a : Instance) → Point a.columns → ℤ → ℕ → Type 0
@@ -28,18 +25,18 @@ abbrev pub IsUnbounded : Instance → Type 0
 IsUnbounded a = (bound : ℤ) → (p : Point a.columns) × IsFeasible a p × (cost_at a p <ℤ (bound *ℤ pos p.d))
 
 abbrev pub IsTrueOf : Instance → Verdict → Type 0
-IsTrueOf a (Optimal numerator denominator) = IsOptimal a numerator denominator
+IsTrueOf a (Optimal value) = (denominator : ℕ) × (pos denominator ≡ value.den) × IsOptimal a value.num denominator
 IsTrueOf a Infeasible = IsInfeasible a
 IsTrueOf a Unbounded = IsUnbounded a
 
--- the same verdict, and where both are optimal the same value as a fraction
+-- the same verdict, and where both are optimal the same value
 abbrev pub SameVerdict : Verdict → Verdict → Type 0
-SameVerdict (Optimal n d) (Optimal m e) = (n *ℤ pos e) ≡ (m *ℤ pos d)
-SameVerdict (Optimal n d) Infeasible = ⊥
-SameVerdict (Optimal n d) Unbounded = ⊥
-SameVerdict Infeasible (Optimal m e) = ⊥
+SameVerdict (Optimal v) (Optimal w) = SameValue v w
+SameVerdict (Optimal v) Infeasible = ⊥
+SameVerdict (Optimal v) Unbounded = ⊥
+SameVerdict Infeasible (Optimal w) = ⊥
 SameVerdict Infeasible Infeasible = Unit {0}
 SameVerdict Infeasible Unbounded = ⊥
-SameVerdict Unbounded (Optimal m e) = ⊥
+SameVerdict Unbounded (Optimal w) = ⊥
 SameVerdict Unbounded Infeasible = ⊥
 SameVerdict Unbounded Unbounded = Unit {0}

@@ -6,6 +6,8 @@ mod case;
 mod constraint;
 mod form;
 mod laws;
+mod point;
+mod verdict;
 
 pub use case::Case;
 pub use constraint::{Constraint, Kind};
@@ -14,3 +16,5 @@ pub use laws::{
     feasible_exactly_in_a_piece, lower_is_irreflexive, lower_is_transitive,
     multiples_meet_the_same, true_verdicts_are_the_same,
 };
+pub use point::{Point, Ray};
+pub use verdict::Verdict;
