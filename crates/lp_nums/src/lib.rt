@@ -9,6 +9,7 @@ mod fractions;
 mod laws;
 mod order;
 mod scan;
+mod text;
 
 pub use decimals::{NumberFault, read_decimal};
 pub use divisors::gcd;

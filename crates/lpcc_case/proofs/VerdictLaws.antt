@@ -7,7 +7,10 @@ use Rattle.std.proofs.Math.IntN.{*ℤ-one, zero-*ℤ}
 use Rattle.lp_base.proofs.Ring.{mul_comm, mul_add_left, mul_add_right, mul_swap, mul_shuffle, mul_lt_right, mul_le_right, mul_cancel_right}
 use Rattle.lpcc_case.specs.Instance.{Instance}
 use Rattle.lpcc_case.specs.Points.{cost_at}
-use Rattle.lpcc_case.specs.Verdicts.{Verdict, Optimal, Infeasible, Unbounded, IsOptimal, IsInfeasible, IsUnbounded, IsTrueOf, SameVerdict}
+use Rattle.lp_nums.specs.Fractions.{Fraction, SameValue}
+use Rattle.lpcc_case.specs.declared.verdict.Verdict.{Verdict}
+use Rattle.lpcc_case.specs.declared.verdict.Verdict.TheVariants.{Optimal, Infeasible, Unbounded}
+use Rattle.lpcc_case.specs.Verdicts.{IsOptimal, IsInfeasible, IsUnbounded, IsTrueOf, SameVerdict}
 
 -- neither is lower, so the costs are equal
 equal_costs : (u v : ℤ) (k l : ℕ) → ((u *ℤ pos l) <ℤ (v *ℤ pos k) → ⊥) → ((v *ℤ pos k) <ℤ (u *ℤ pos l) → ⊥) → (u *ℤ pos l) ≡ (v *ℤ pos k)
@@ -78,13 +81,17 @@ optimal-infeasible a n d best none = none best.0 best.2
 infeasible-unbounded : (a : Instance) → IsInfeasible a → IsUnbounded a → ⊥
 infeasible-unbounded a none unbounded = let found = unbounded (pos 0) in none found.0 found.1
 
+same-value : (a : Instance) (v w : Fraction) → pos 1 ≤ℤ a.scale → IsTrueOf a (Optimal v) → IsTrueOf a (Optimal w) → SameValue v w
+same-value a v w scale one two =
+    rw (← one.1, ← two.1) (optimal-unique a v.num w.num one.0 two.0 scale one.2 two.2)
+
 pub same-verdict : (a : Instance) (v w : Verdict) → pos 1 ≤ℤ a.scale → IsTrueOf a v → IsTrueOf a w → SameVerdict v w
-same-verdict a (Optimal n d) (Optimal m e) scale one two = optimal-unique a n m d e scale one two
-same-verdict a (Optimal n d) Infeasible scale one two = optimal-infeasible a n d one two
-same-verdict a (Optimal n d) Unbounded scale one two = optimal-unbounded a n d one two
-same-verdict a Infeasible (Optimal m e) scale one two = optimal-infeasible a m e two one
+same-verdict a (Optimal v) (Optimal w) scale one two = same-value a v w scale one two
+same-verdict a (Optimal v) Infeasible scale one two = optimal-infeasible a v.num one.0 one.2 two
+same-verdict a (Optimal v) Unbounded scale one two = optimal-unbounded a v.num one.0 one.2 two
+same-verdict a Infeasible (Optimal w) scale one two = optimal-infeasible a w.num two.0 two.2 one
 same-verdict a Infeasible Infeasible scale one two = tt
 same-verdict a Infeasible Unbounded scale one two = infeasible-unbounded a one two
-same-verdict a Unbounded (Optimal m e) scale one two = optimal-unbounded a m e two one
+same-verdict a Unbounded (Optimal w) scale one two = optimal-unbounded a w.num two.0 two.2 one
 same-verdict a Unbounded Infeasible scale one two = infeasible-unbounded a two one
 same-verdict a Unbounded Unbounded scale one two = tt

@@ -4,3 +4,4 @@ pub mod Points
 pub mod Pieces
 pub mod Verdicts
 pub mod NarrowPoints
+pub mod Values

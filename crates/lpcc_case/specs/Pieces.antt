@@ -1,10 +1,14 @@
 -- Pieces of the feasible set.
-use Rattle.std.specs.Prelude.{◌≡◌, List, length}
+use Rattle.std.specs.Prelude.{◌≡◌, ◌<◌, List, All, length}
 use Rattle.nogoods.specs.declared.choice.Choice.{Choice}
 use Rattle.nogoods.specs.declared.choice.Side.{Side}
 use Rattle.nogoods.specs.Pieces.{IsChoiceOf, Bars}
 use Rattle.lpcc_case.specs.Instance.{Instance, chosen}
 use Rattle.lpcc_case.specs.Points.{Point, MeetsAll, IsTight}
+
+-- each choice names a pair of the instance
+abbrev pub NamesPairs : Instance → List Choice → Type 0
+NamesPairs a choices = All (λ c. c.pair < length a.pairs) choices
 
 -- one side for each pair
 abbrev pub IsPiece : Instance → List Side → Type 0

@@ -1,9 +1,12 @@
 //! The case of a deck: cost, constraints and pairs over whole numbers.
-ghost use Rattle.std.specs.Prelude.{◌≡◌};
+ghost use Rattle.std.specs.Prelude.{◌≡◌, ◌<◌, IfOk, length};
 ghost use Rattle.lpcc_case.specs.Cases.{IsCase, instance_of};
+ghost use Rattle.lpcc_case.specs.Instance.{chosen, chosen_number};
 
 use crate::Constraint;
 use lp_base::Sequence;
+use nogoods::{Choice, Side};
+use std::alloc::{AllocError, Global};
 use std::marker::Model;
 
 /// An instance with the limits that keep every sum of a test below 2^127. Contracts see it as
@@ -97,5 +100,45 @@ impl Case {
         ensures kept { IsCase self.now }
     {
         self.pairs.as_slice()
+    }
+
+    /// The number of the constraint that a choice makes tight.
+    pub fn chosen_number(&self, choice: Choice) -> u32
+        requires { choice.pair < length self.now.pairs }
+        ensures value { result ≡ chosen_number self.now choice }
+        ensures within { result < length self.now.constraints }
+    {
+        let pair = self.pairs()[choice.pair as usize];
+        match choice.side {
+            Side::A => pair.0,
+            Side::B => pair.1,
+        }
+    }
+
+    /// The constraint that a choice makes tight.
+    pub fn chosen(&self, choice: Choice) -> &Constraint
+        requires { choice.pair < length self.now.pairs }
+        ensures value { result.now ≡ chosen self.now choice }
+        ensures kept { IsCase self.now }
+    {
+        &self.constraints()[self.chosen_number(choice) as usize]
+    }
+
+    /// An equal case.
+    pub fn copy(&self, alloc: Global) -> Result<Case, AllocError>
+        ensures { IfOk result (λ made. made ≡ self.now) }
+    {
+        let mut constraints = Sequence::new(alloc);
+        for constraint in self.constraints() {
+            constraints.push(constraint.copy(alloc)?)?;
+        }
+        Ok(Case {
+            columns: self.columns,
+            cost: self.cost.copy(alloc)?,
+            scale: self.scale,
+            offset: self.offset,
+            constraints,
+            pairs: self.pairs.copy(alloc)?,
+        })
     }
 }

@@ -1,5 +1,8 @@
 //! One linear constraint.
+ghost use Rattle.std.specs.Prelude.{◌≡◌, IfOk};
+
 use lp_base::Sequence;
+use std::alloc::{AllocError, Global};
 
 /// How a left side stands to the right side.
 #[derive(Clone, Copy, Debug, PartialEq, Eq)]
@@ -17,4 +20,17 @@ pub struct Constraint {
     pub kind: Kind,
     pub terms: Sequence<(u32, i64)>,
     pub rhs: i64,
+}
+
+impl Constraint {
+    /// An equal constraint.
+    pub fn copy(&self, alloc: Global) -> Result<Constraint, AllocError>
+        ensures { IfOk result (λ made. made ≡ self.now) }
+    {
+        Ok(Constraint {
+            kind: self.kind,
+            terms: self.terms.copy(alloc)?,
+            rhs: self.rhs,
+        })
+    }
 }

@@ -4,17 +4,25 @@
 
 mod case;
 mod constraint;
+mod feasible;
+mod fits;
 mod form;
 mod laws;
 mod point;
+mod sums;
+mod value;
 mod verdict;
 
 pub use case::Case;
 pub use constraint::{Constraint, Kind};
+pub use feasible::{is_complementary, is_tight_at, meets, recedes};
+pub use fits::is_of;
 pub use form::Form;
 pub use laws::{
     feasible_exactly_in_a_piece, lower_is_irreflexive, lower_is_transitive,
-    multiples_meet_the_same, true_verdicts_are_the_same,
+    multiples_meet_the_same, point_is_below_where_lower, true_verdicts_are_the_same,
+    value_is_that_of_the_point,
 };
 pub use point::{Point, Ray};
+pub use value::{lower, value_of, value_text};
 pub use verdict::Verdict;

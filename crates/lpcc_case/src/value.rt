@@ -1,0 +1,41 @@
+//! The order of points by their cost, and the value of a point.
+ghost use Rattle.std.specs.Prelude.{◌≤◌, ◌^◌, ◌↔◌, ◌≤ℤ◌, pos, IfOk, IsTrue, string_bytes, unsigned_abs};
+ghost use Rattle.lpcc_case.specs.NarrowPoints.{IsBelow};
+ghost use Rattle.lpcc_case.specs.Values.{IsValue, IsValueText};
+
+use crate::{Case, Point};
+use lp_nums::{Frac, compare};
+use std::alloc::{AllocError, Global};
+use std::cmp::Ordering;
+
+/// Whether the cost `z / d` of one point is below that of the other, exact. It takes no memory.
+pub fn lower(a: &Point, b: &Point) -> bool
+    requires first { pos 1 ≤ℤ a.now.d }
+    requires second { pos 1 ≤ℤ b.now.d }
+    ensures { IsTrue result ↔ IsBelow a.now b.now }
+{
+    compare(a.z, a.d, b.z, b.d) == Ordering::Less
+}
+
+/// The value of the point with scale and offset, `(z + offset * d) / (scale * d)`, in lowest
+/// terms. It takes no memory.
+pub fn value_of(case: &Case, point: &Point) -> Frac
+    requires positive { pos 1 ≤ℤ point.now.d }
+    requires room { unsigned_abs point.now.z ≤ 2 ^ 126 }
+    ensures { IsValue case.now point.now.z point.now.d result }
+{
+    let d = i128::from(point.d);
+    Frac::reduced(
+        point.z + i128::from(case.offset()) * d,
+        i128::from(case.scale()) * d,
+    )
+}
+
+/// The text of `value_of`: `N`, or `N/D` where the denominator is not 1.
+pub fn value_text(alloc: Global, case: &Case, point: &Point) -> Result<String, AllocError>
+    requires positive { pos 1 ≤ℤ point.now.d }
+    requires room { unsigned_abs point.now.z ≤ 2 ^ 126 }
+    ensures { IfOk result (λ text. IsValueText case.now point.now.z point.now.d (string_bytes text)) }
+{
+    value_of(case, point).to_string(alloc)
+}
