@@ -2,3 +2,5 @@ pub mod Order
 pub mod Multiples
 pub mod PieceLaws
 pub mod VerdictLaws
+pub mod Products
+pub mod Members

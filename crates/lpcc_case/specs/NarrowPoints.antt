@@ -2,7 +2,7 @@
 use Rattle.std.specs.Prelude.{◌≡◌, ℕ, ℤ, pos, ◌≤ℤ◌, ◌*ℤ◌, ◌<ℤ◌, List, All, length}
 use Rattle.lp_base.specs.Numbers.{IsNarrow}
 use Rattle.lp_base.specs.Sums.{dot}
-use Rattle.lpcc_case.specs.Instance.{Instance}
+use Rattle.lpcc_case.specs.Instance.{Instance, constraint_at}
 use Rattle.lpcc_case.specs.Points as points
 use Rattle.lpcc_case.specs.declared.point.Point.{Point}
 
@@ -10,6 +10,10 @@ use Rattle.lpcc_case.specs.declared.point.Point.{Point}
 pub record AreNumbersOf (a : Instance) (numbers : List ℤ) : Type 0 where
   pub size : length numbers ≡ a.columns
   pub narrow : All IsNarrow numbers
+
+-- at these numbers the left side of the constraint of this number is d times its right side
+abbrev pub IsEqual : Instance → List ℤ → ℤ → ℕ → Type 0
+IsEqual a numbers d k = points.left_side (constraint_at a k).terms numbers ≡ ((constraint_at a k).rhs *ℤ d)
 
 -- narrow numbers for the columns of the instance, and a denominator of at least 1
 pub record IsPointFor (a : Instance) (q : Point) : Type 0 where

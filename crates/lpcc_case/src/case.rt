@@ -74,14 +74,16 @@ impl Case {
 
     /// What the cost was multiplied by to make it whole, at least 1.
     pub fn scale(&self) -> i64
-        ensures { result ≡ self.now.scale }
+        ensures value { result ≡ self.now.scale }
+        ensures kept { IsCase self.now }
     {
         self.scale
     }
 
     /// The constant of the objective, times the scale.
     pub fn offset(&self) -> i64
-        ensures { result ≡ self.now.offset }
+        ensures value { result ≡ self.now.offset }
+        ensures kept { IsCase self.now }
     {
         self.offset
     }
@@ -128,17 +130,29 @@ impl Case {
     pub fn copy(&self, alloc: Global) -> Result<Case, AllocError>
         ensures { IfOk result (λ made. made ≡ self.now) }
     {
-        let mut constraints = Sequence::new(alloc);
-        for constraint in self.constraints() {
-            constraints.push(constraint.copy(alloc)?)?;
-        }
-        Ok(Case {
-            columns: self.columns,
-            cost: self.cost.copy(alloc)?,
-            scale: self.scale,
-            offset: self.offset,
+        let cost = self.cost.copy(alloc)?;
+        let constraints = copy_constraints(alloc, self.constraints())?;
+        let pairs = self.pairs.copy(alloc)?;
+        Ok(Case::of_parts(
+            self.columns,
+            cost,
+            self.scale,
+            self.offset,
             constraints,
-            pairs: self.pairs.copy(alloc)?,
-        })
+            pairs,
+        ))
     }
+}
+
+fn copy_constraints(
+    alloc: Global,
+    constraints: &[Constraint],
+) -> Result<Sequence<Constraint>, AllocError>
+    ensures { IfOk result (λ made. made ≡ constraints.now) }
+{
+    let mut made = Sequence::new(alloc);
+    for constraint in constraints {
+        made.push(constraint.copy(alloc)?)?;
+    }
+    Ok(made)
 }

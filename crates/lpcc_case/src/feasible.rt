@@ -1,16 +1,16 @@
 //! Which constraints a point meets, and along which a direction goes.
-ghost use Rattle.std.specs.Prelude.{◌≡◌, ◌<◌, ◌≤◌, ◌↔◌, ◌⊎◌, ◌*ℤ◌, pos, All, IsTrue, length};
+ghost use Rattle.std.specs.Prelude.{◌<◌, ◌≤◌, ◌↔◌, ◌⊎◌, ◌*ℤ◌, All, IsTrue, length};
 ghost use Rattle.lp_base.specs.Numbers.{IsNarrow};
 ghost use Rattle.lpcc_case.specs.Cases.{IsConstraint};
-ghost use Rattle.lpcc_case.specs.Instance.{chosen, chosen_number};
-ghost use Rattle.lpcc_case.specs.NarrowPoints.{AreNumbersOf, IsPointFor, Means};
+ghost use Rattle.lpcc_case.specs.Instance.{chosen_number};
+ghost use Rattle.lpcc_case.specs.NarrowPoints.{AreNumbersOf, IsEqual, IsPointFor, Means};
 ghost use Rattle.lpcc_case.specs.Pieces.{NamesPairs};
 ghost use Rattle.lpcc_case.specs.Points as points;
 ghost use Rattle.lpcc_case.specs.Points.{Relates, MeetsAll, IsTightAt, IsComplementary, Recedes, left_side};
 
 use crate::sums::{cost_of, left_side, product};
 use crate::{Case, Constraint, Kind, Point, Ray};
-use nogoods::{Choice, NoGood, Side};
+use nogoods::{Choice, NoGood};
 
 /// Whether the left side at these numbers relates to d times the right side.
 fn relates(constraint: &Constraint, numbers: &[i64], d: i64) -> bool
@@ -28,14 +28,14 @@ fn relates(constraint: &Constraint, numbers: &[i64], d: i64) -> bool
     }
 }
 
-/// Whether the left side at these numbers is d times the right side.
-fn is_equal(constraint: &Constraint, numbers: &[i64], d: i64) -> bool
-    requires form { IsConstraint (length numbers.now) constraint.now }
-    requires few { length numbers.now ≤ 1000 }
-    requires narrow { All IsNarrow numbers.now }
+/// Whether the left side of the constraint of this number is d times its right side.
+fn is_equal(case: &Case, number: u32, numbers: &[i64], d: i64) -> bool
+    requires named { number < length case.now.constraints }
+    requires numbers { AreNumbersOf case.now numbers.now }
     requires factor { IsNarrow d }
-    ensures { IsTrue result ↔ (left_side constraint.now.terms numbers.now ≡ (constraint.now.rhs *ℤ d)) }
+    ensures { IsTrue result ↔ IsEqual case.now numbers.now d number }
 {
+    let constraint = &case.constraints()[number as usize];
     left_side(constraint, numbers) == product(constraint.rhs, d)
 }
 
@@ -58,10 +58,35 @@ fn all_equal(case: &Case, choices: &[Choice], numbers: &[i64], d: i64) -> bool
     requires numbers { AreNumbersOf case.now numbers.now }
     requires factor { IsNarrow d }
     requires named { NamesPairs case.now choices.now }
-    ensures { IsTrue result ↔ All (λ c. left_side (chosen case.now c).terms numbers.now ≡ ((chosen case.now c).rhs *ℤ d)) choices.now }
+    ensures { IsTrue result ↔ All (λ c. IsEqual case.now numbers.now d (chosen_number case.now c)) choices.now }
 {
     for choice in choices {
-        if !is_equal(case.chosen(*choice), numbers, d) {
+        if !is_equal(case, case.chosen_number(*choice), numbers, d) {
+            return false;
+        }
+    }
+    true
+}
+
+/// Whether the left side of one of two constraints is d times its right side.
+fn one_equal(case: &Case, pair: (u32, u32), numbers: &[i64], d: i64) -> bool
+    requires first { pair.0 < length case.now.constraints }
+    requires second { pair.1 < length case.now.constraints }
+    requires numbers { AreNumbersOf case.now numbers.now }
+    requires factor { IsNarrow d }
+    ensures { IsTrue result ↔ (IsEqual case.now numbers.now d pair.0 ⊎ IsEqual case.now numbers.now d pair.1) }
+{
+    is_equal(case, pair.0, numbers, d) || is_equal(case, pair.1, numbers, d)
+}
+
+/// Whether in each pair the left side of one member is d times its right side.
+fn one_equal_in_each_pair(case: &Case, numbers: &[i64], d: i64) -> bool
+    requires numbers { AreNumbersOf case.now numbers.now }
+    requires factor { IsNarrow d }
+    ensures { IsTrue result ↔ All (λ pair. IsEqual case.now numbers.now d pair.0 ⊎ IsEqual case.now numbers.now d pair.1) case.now.pairs }
+{
+    for pair in case.pairs() {
+        if !one_equal(case, *pair, numbers, d) {
             return false;
         }
     }
@@ -81,16 +106,7 @@ pub fn is_complementary(case: &Case, point: &Point) -> bool
     requires { IsPointFor case.now point.now }
     ensures { (p : points.Point case.now.columns) → Means point.now p → IsTrue result ↔ IsComplementary case.now p }
 {
-    let constraints = case.constraints();
-    let numbers = point.x.as_slice();
-    for pair in case.pairs() {
-        if !is_equal(&constraints[pair.0 as usize], numbers, point.d)
-            && !is_equal(&constraints[pair.1 as usize], numbers, point.d)
-        {
-            return false;
-        }
-    }
-    true
+    one_equal_in_each_pair(case, point.x.as_slice(), point.d)
 }
 
 /// Whether the point is tight at the constraint of each choice. It takes no memory.

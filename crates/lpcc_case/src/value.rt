@@ -1,8 +1,9 @@
 //! The order of points by their cost, and the value of a point.
-ghost use Rattle.std.specs.Prelude.{◌≤◌, ◌^◌, ◌↔◌, ◌≤ℤ◌, pos, IfOk, IsTrue, string_bytes, unsigned_abs};
+ghost use Rattle.std.specs.Prelude.{◌≡◌, ◌<◌, ◌≤◌, ◌^◌, ◌↔◌, ◌+ℤ◌, ◌*ℤ◌, ◌≤ℤ◌, pos, IfOk, IsTrue, string_bytes, unsigned_abs};
 ghost use Rattle.lpcc_case.specs.NarrowPoints.{IsBelow};
 ghost use Rattle.lpcc_case.specs.Values.{IsValue, IsValueText};
 
+use crate::sums::product;
 use crate::{Case, Point};
 use lp_nums::{Frac, compare};
 use std::alloc::{AllocError, Global};
@@ -17,6 +18,23 @@ pub fn lower(a: &Point, b: &Point) -> bool
     compare(a.z, a.d, b.z, b.d) == Ordering::Less
 }
 
+fn numerator(case: &Case, point: &Point) -> i128
+    requires positive { pos 1 ≤ℤ point.now.d }
+    requires room { unsigned_abs point.now.z ≤ 2 ^ 126 }
+    ensures value { result ≡ point.now.z +ℤ (case.now.offset *ℤ point.now.d) }
+    ensures small { unsigned_abs result < 2 ^ 127 }
+{
+    point.z + product(case.offset(), point.d)
+}
+
+fn denominator(case: &Case, point: &Point) -> i128
+    requires { pos 1 ≤ℤ point.now.d }
+    ensures value { result ≡ case.now.scale *ℤ point.now.d }
+    ensures positive { pos 1 ≤ℤ result }
+{
+    product(case.scale(), point.d)
+}
+
 /// The value of the point with scale and offset, `(z + offset * d) / (scale * d)`, in lowest
 /// terms. It takes no memory.
 pub fn value_of(case: &Case, point: &Point) -> Frac
@@ -24,11 +42,7 @@ pub fn value_of(case: &Case, point: &Point) -> Frac
     requires room { unsigned_abs point.now.z ≤ 2 ^ 126 }
     ensures { IsValue case.now point.now.z point.now.d result }
 {
-    let d = i128::from(point.d);
-    Frac::reduced(
-        point.z + i128::from(case.offset()) * d,
-        i128::from(case.scale()) * d,
-    )
+    Frac::reduced(numerator(case, point), denominator(case, point))
 }
 
 /// The text of `value_of`: `N`, or `N/D` where the denominator is not 1.
