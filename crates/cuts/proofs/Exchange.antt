@@ -6,7 +6,8 @@ use Rattle.lp_base.specs.Sums.{sum_over, dot}
 use Rattle.lp_base.proofs.Ring.{mul_add_right, mul_add_left, mul_assoc}
 use Rattle.lpcc_case.specs.Instance.{Instance, constraint_at}
 use Rattle.lpcc_case.specs.Points.{left_side}
-use Rattle.cuts.specs.Cuts.{coefficient, column_sum}
+use Rattle.lpcc_case.specs.Points.{coefficient}
+use Rattle.cuts.specs.Cuts.{column_sum}
 use Rattle.cuts.proofs.Columns.{share, share_at, share_before, share_after}
 
 -- a number for each column, times x, from column i on

@@ -1,4 +1,3 @@
-pub mod InPlace
 pub mod Columns
 pub mod Steps
 pub mod Marks

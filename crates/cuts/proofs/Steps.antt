@@ -1,20 +1,23 @@
 -- The steps of the loops over terms and over multipliers.
 use Rattle.std.proofs.Common.{ℕ, zero, suc, ◌+◌, ◌^◌, ◌<◌, ◌≡◌, refl, sym, ap, ◌∙◌, arith, ℤ, pos, ◌+ℤ◌, ◌*ℤ◌, IsTrue, inl, inr, List, length, get_or, set, take, replicate, to_z, of_z}
 use Rattle.std.specs.Prelude.{unsigned_abs}
-use Rattle.std.proofs.lemmas.Int.{fits_signed_from_abs}
 use Rattle.std.proofs.lemmas.Bool.{cases_lt, cases_eq}
 use Rattle.std.proofs.lemmas.List.{get_or-set_same, get_or-set_other, length-set, get_or_past, get_or_read, take_all}
 use Rattle.std.proofs.Math.IntN.{+ℤ_idr, +ℤ_assoc, *ℤ-zero}
 use mir.Syntax.{w64, w128}
-use Rattle.lp_base.specs.Ascending.{ascends_by}
+use Rattle.lp_base.specs.Ascending.{ascends_by, number_of}
 use Rattle.lp_base.specs.Numbers.{IsNarrow}
 use Rattle.lp_base.proofs.Ring.{mul_add_left, abs_add, abs_mul}
-use Rattle.lp_base.proofs.Machine.{again, again_64}
+use Rattle.lp_base.proofs.Machine.{again, narrow_again, same_bits}
+use Rattle.lp_base.proofs.SumLaws.{sum_over-more}
 use Rattle.lpcc_case.specs.declared.constraint.Constraint.{Constraint}
 use Rattle.lpcc_case.specs.Instance.{Instance, constraint_at, no_constraint}
-use Rattle.lpcc_case.specs.Cases.{IsCase, FitsCase, column_of}
-use Rattle.cuts.specs.Cuts.{coefficient, column_sum, right_sum, AreMultipliers}
-use Rattle.cuts.proofs.Columns.{share, share_at, share_other, sum_over-more, coefficient_before, constraint_of_case, column_sum_small, right_sum_small}
+use Rattle.lpcc_case.specs.Cases.{IsCase, FitsCase}
+use Rattle.lpcc_case.specs.Points.{coefficient}
+use Rattle.lpcc_case.proofs.Members.{constraint_of_case}
+use Rattle.lpcc_case.proofs.Products.{fitting_again}
+use Rattle.cuts.specs.Cuts.{column_sum, right_sum, AreMultipliers}
+use Rattle.cuts.proofs.Columns.{share, share_at, share_other, coefficient_before, column_sum_small, right_sum_small}
 
 -- a list of one value only
 pub get_or-same : {A : Type 0} (n j : ℕ) (d : A) → get_or (replicate n d) j d ≡ d
@@ -23,18 +26,6 @@ get_or-same (suc n) zero d = refl
 get_or-same (suc n) (suc j) d = get_or-same n j d
 
 -- ---- the machine's numbers
-
-pub again_small : (z : ℤ) → unsigned_abs z < 2 ^ 126 → unsigned_abs (to_z w128 (of_z w128 z)) < 2 ^ 126
-again_small z h = rw (again z (omega arith)) h
-
-pub same_bits : (s p : ℤ) → unsigned_abs s < 2 ^ 127 → unsigned_abs p < 2 ^ 127 → of_z w128 s ≡ of_z w128 p → s ≡ p
-same_bits s p hs hp e = sym (again s hs) ∙ ap (to_z w128) e ∙ again p hp
-
-pub narrow_again : (y : ℤ) → IsNarrow y → to_z w64 (of_z w64 y) ≡ y
-narrow_again y h = again_64 y (fits_signed_from_abs w64 y h)
-
-pub fitting_again : (a : ℤ) → FitsCase a → to_z w64 (of_z w64 a) ≡ a
-fitting_again a h = again_64 a (fits_signed_from_abs w64 a (omega (arith, h)))
 
 -- a product more, read again
 pub added : (r s y a : ℤ) → r ≡ s +ℤ (to_z w64 (of_z w64 y) *ℤ to_z w64 (of_z w64 a)) → unsigned_abs s < 2 ^ 126 → IsNarrow y → FitsCase a → to_z w128 (of_z w128 r) ≡ s +ℤ (y *ℤ a)
@@ -50,7 +41,7 @@ abbrev pub HoldsTerms : List ℤ → List ℤ → ℤ → List (ℕ × ℤ) → 
 HoldsTerms sums old y terms = (j : ℕ) → j < length sums → get_or sums j (pos 0) ≡ (get_or old j (pos 0) +ℤ (y *ℤ coefficient terms j))
 
 -- the sum of the next term's column is still the old one
-pub room_at : (sums old : List ℤ) (y : ℤ) (ts : List (ℕ × ℤ)) (i : ℕ) → IsTrue (ascends_by column_of ts) → i < length ts → (get_or ts i (0, pos 0)).0 < length sums → HoldsTerms sums old y (take i ts) → unsigned_abs (get_or old (get_or ts i (0, pos 0)).0 (pos 0)) < 2 ^ 126 → unsigned_abs (get_or sums (get_or ts i (0, pos 0)).0 (pos 0)) < 2 ^ 126
+pub room_at : (sums old : List ℤ) (y : ℤ) (ts : List (ℕ × ℤ)) (i : ℕ) → IsTrue (ascends_by number_of ts) → i < length ts → (get_or ts i (0, pos 0)).0 < length sums → HoldsTerms sums old y (take i ts) → unsigned_abs (get_or old (get_or ts i (0, pos 0)).0 (pos 0)) < 2 ^ 126 → unsigned_abs (get_or sums (get_or ts i (0, pos 0)).0 (pos 0)) < 2 ^ 126
 room_at sums old y ts i asc h within holds room =
     rw (holds (get_or ts i (0, pos 0)).0 within, coefficient_before ts i (0, pos 0) asc h, *ℤ-zero y, +ℤ_idr (get_or old (get_or ts i (0, pos 0)).0 (pos 0))) room
 

@@ -1,11 +1,12 @@
 -- The test of a cut, with its faults in their order, and the truth of a cut.
-use Rattle.std.specs.Prelude.{◌≡◌, ◌≢◌, ◌<◌, ℕ, ℤ, pos, ◌*ℤ◌, ◌≤ℤ◌, ◌<ℤ◌, List, All, Any, IsTrue, Option, Some, None, Result, Ok, Err, length, nat_eq, slice_index_or, if◌then◌else◌}
-use Rattle.lp_base.specs.Ascending.{ascends_by}
+use Rattle.std.specs.Prelude.{◌≡◌, ◌≢◌, ◌<◌, ℕ, ℤ, pos, ◌*ℤ◌, ◌≤ℤ◌, ◌<ℤ◌, List, All, Any, IsTrue, Option, Some, None, Result, Ok, Err, length, slice_index_or}
+use Rattle.lp_base.specs.Ascending.{ascends_by, number_of}
 use Rattle.lp_base.specs.Numbers.{IsNarrow}
 use Rattle.lp_base.specs.Sums.{sum_over}
 use Rattle.nogoods.specs.declared.choice.Choice.{Choice}
 use Rattle.lpcc_case.specs.declared.constraint.Kind.TheVariants.{Ge}
 use Rattle.lpcc_case.specs.Instance.{Instance, constraint_at, chosen_number}
+use Rattle.lpcc_case.specs.Pieces.{NamesPairs}
 use Rattle.lpcc_case.specs.Points as points
 use Rattle.cuts.specs.declared.cut.Cut.{Cut}
 use Rattle.cuts.specs.declared.cut.Cut.TheVariants.{Ray, Point}
@@ -22,16 +23,9 @@ multipliers_of (Point ng mult e v) = mult
 
 -- ---- weighed sums of constraints
 
-abbrev pub constraint_of : ℕ × ℤ → ℕ
-constraint_of m = m.0
-
--- the coefficient of column j
-abbrev pub coefficient : List (ℕ × ℤ) → ℕ → ℤ
-coefficient terms j = sum_over (λ t. if nat_eq t.0 j then t.1 else pos 0) terms
-
 -- the multipliers times the coefficients of column j
 abbrev pub column_sum : Instance → List (ℕ × ℤ) → ℕ → ℤ
-column_sum a mult j = sum_over (λ m. m.1 *ℤ coefficient (constraint_at a m.0).terms j) mult
+column_sum a mult j = sum_over (λ m. m.1 *ℤ points.coefficient (constraint_at a m.0).terms j) mult
 
 -- the multipliers times the right sides
 abbrev pub right_sum : Instance → List (ℕ × ℤ) → ℤ
@@ -44,14 +38,14 @@ IsMultiplier y = IsNarrow y × (y ≢ pos 0)
 
 -- constraints of the case in ascending order, each with a multiplier that is narrow and not zero
 pub record AreMultipliers (a : Instance) (mult : List (ℕ × ℤ)) : Type 0 where
-  pub ascending : IsTrue (ascends_by constraint_of mult)
+  pub ascending : IsTrue (ascends_by number_of mult)
   pub constraints_named : All (λ m. m.0 < length a.constraints) mult
   pub numbers : All (λ m. IsMultiplier m.1) mult
 
 -- multipliers of the case, and choices that name pairs
 pub record IsIndexed (a : Instance) (ng : List Choice) (mult : List (ℕ × ℤ)) : Type 0 where
   pub multipliers : AreMultipliers a mult
-  pub pairs_named : All (λ c. c.pair < length a.pairs) ng
+  pub pairs_named : NamesPairs a ng
 
 -- a negative multiplier stands on an equation, or on the chosen side of one of the choices
 abbrev pub HasSign : Instance → List Choice → ℕ × ℤ → Type 0

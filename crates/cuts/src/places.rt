@@ -1,13 +1,14 @@
 //! Whether the multipliers and the choices of a cut are in place.
 ghost use Rattle.std.specs.Prelude.{◌≡◌, ◌<◌, ◌↔◌, IsTrue, All, length};
-ghost use Rattle.lp_base.specs.Ascending.{ascends_by};
-ghost use Rattle.cuts.specs.Cuts.{AreMultipliers, IsIndexed, IsMultiplier, constraint_of};
+ghost use Rattle.lp_base.specs.Ascending.{ascends_by, number_of};
+ghost use Rattle.cuts.specs.Cuts.{AreMultipliers, IsIndexed, IsMultiplier};
+ghost use Rattle.lpcc_case.specs.Pieces.{NamesPairs};
 
 use lpcc_case::Case;
 use nogoods::{Choice, NoGood};
 
 fn is_ascending(mult: &[(u32, i64)]) -> bool
-    ensures { result ≡ ascends_by constraint_of mult.now }
+    ensures { result ≡ ascends_by number_of mult.now }
 {
     for i in 1..mult.len() {
         if mult[i - 1].0 >= mult[i].0 {
@@ -29,9 +30,10 @@ fn are_numbers(mult: &[(u32, i64)]) -> bool
     mult.iter().all(|m| m.1 != 0 && m.1 != i64::MIN)
 }
 
-fn name_pairs(count: usize, choices: &[Choice]) -> bool
-    ensures { IsTrue result ↔ All (λ c. c.pair < count) choices.now }
+fn name_pairs(case: &Case, choices: &[Choice]) -> bool
+    ensures { IsTrue result ↔ NamesPairs case.now choices.now }
 {
+    let count = case.pairs().len();
     choices.iter().all(|choice| (choice.pair as usize) < count)
 }
 
@@ -45,5 +47,5 @@ fn are_multipliers(case: &Case, mult: &[(u32, i64)]) -> bool
 pub fn is_indexed(case: &Case, ng: &NoGood, mult: &[(u32, i64)]) -> bool
     ensures { IsTrue result ↔ IsIndexed case.now ng.now mult.now }
 {
-    are_multipliers(case, mult) && name_pairs(case.pairs().len(), ng.choices())
+    are_multipliers(case, mult) && name_pairs(case, ng.choices())
 }

@@ -1,37 +1,22 @@
 //! Whether each multiplier may have its sign.
-ghost use Rattle.std.specs.Prelude.{◌≡◌, ◌<◌, ◌≤◌, ◌↔◌, ◌<ℤ◌, ℕ, pos, IsTrue, All, Any, false, length, slice_index_or};
+ghost use Rattle.std.specs.Prelude.{◌≡◌, ◌<◌, ◌≤◌, ◌↔◌, ◌<ℤ◌, ℕ, pos, IsTrue, Any, false, length, slice_index_or};
 ghost use Rattle.lpcc_case.specs.Instance.{chosen_number, no_constraint};
+ghost use Rattle.lpcc_case.specs.Pieces.{NamesPairs};
 ghost use Rattle.cuts.specs.Cuts.{HasSigns, IsIndexed};
 
-use lpcc_case::{Case, Constraint, Kind};
-use nogoods::{Choice, NoGood, Side};
-
-/// As many constraints as a case may have.
-const MOST_CONSTRAINTS: usize = 2000;
-
-/// The number of the constraint that a choice makes tight.
-fn number_of(case: &Case, choice: Choice) -> u32
-    requires { choice.pair < length case.now.pairs }
-    ensures value { result ≡ chosen_number case.now choice }
-    ensures within { result < length case.now.constraints }
-{
-    let pair = case.pairs()[choice.pair as usize];
-    match choice.side {
-        Side::A => pair.0,
-        Side::B => pair.1,
-    }
-}
+use lpcc_case::{Case, Constraint, Kind, MOST_CONSTRAINTS};
+use nogoods::{Choice, NoGood};
 
 /// Marks the constraint of each choice.
 fn mark_chosen(case: &Case, choices: &[Choice], marks: &mut [bool])
-    requires pairs_named { All (λ c. c.pair < length case.now.pairs) choices.now }
+    requires named { NamesPairs case.now choices.now }
     requires room { length case.now.constraints ≤ length marks.old }
     requires unmarked { (k : ℕ) → slice_index_or marks.old k false ≡ false }
     ensures { (k : ℕ) → IsTrue (slice_index_or marks.new k false)
         ↔ Any (λ c. chosen_number case.now c ≡ k) choices.now }
 {
     for choice in choices {
-        marks[number_of(case, *choice) as usize] = true;
+        marks[case.chosen_number(*choice) as usize] = true;
     }
 }
 

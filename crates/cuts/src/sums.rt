@@ -1,14 +1,12 @@
 //! Sums of constraints, each times its multiplier.
 ghost use Rattle.std.specs.Prelude.{◌≡◌, ◌<◌, ◌≤◌, ◌^◌, ◌↔◌, ◌+ℤ◌, ◌*ℤ◌, ℕ, pos, IsTrue, All, length, slice_index_or, unsigned_abs};
-ghost use Rattle.lp_base.specs.Ascending.{ascends_by};
+ghost use Rattle.lp_base.specs.Ascending.{ascends_by, number_of};
 ghost use Rattle.lp_base.specs.Numbers.{IsNarrow};
-ghost use Rattle.lpcc_case.specs.Cases.{FitsCase, column_of};
-ghost use Rattle.cuts.specs.Cuts.{AreMultipliers, coefficient, column_sum, right_sum};
+ghost use Rattle.lpcc_case.specs.Cases.{FitsCase};
+ghost use Rattle.lpcc_case.specs.Points.{coefficient};
+ghost use Rattle.cuts.specs.Cuts.{AreMultipliers, column_sum, right_sum};
 
-use lpcc_case::Case;
-
-/// As many columns as a case may have.
-const MOST_COLUMNS: usize = 1000;
+use lpcc_case::{Case, MOST_COLUMNS};
 
 fn product(y: i64, number: i64) -> i128
     requires narrow { IsNarrow y }
@@ -30,7 +28,7 @@ fn add_product(sum: i128, y: i64, number: i64) -> i128
 /// Adds y times each term to the sum of its column.
 fn add_terms(sums: &mut [i128], y: i64, terms: &[(u32, i64)])
     requires narrow { IsNarrow y }
-    requires ascending { IsTrue (ascends_by column_of terms.now) }
+    requires ascending { IsTrue (ascends_by number_of terms.now) }
     requires named { All (λ t. t.0 < length sums.old) terms.now }
     requires fit { All (λ t. FitsCase t.1) terms.now }
     requires room { (j : ℕ) → unsigned_abs (slice_index_or sums.old j (pos 0)) < 2 ^ 126 }

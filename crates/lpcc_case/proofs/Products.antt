@@ -7,6 +7,7 @@ use Rattle.std.proofs.Math.Nat.{mul-le-mul}
 use Rattle.std.proofs.lemmas.List.{length-take}
 use Rattle.std.proofs.lemmas.List.Elements.{All-take, recursion_from_All}
 use mir.Syntax.{w64, w128}
+use Rattle.lp_base.specs.Ascending.{number_of}
 use Rattle.lp_base.specs.Numbers.{IsNarrow}
 use Rattle.lp_base.specs.Sums.{sum_over, dot}
 use Rattle.lp_base.proofs.Machine.{again, again_64, narrow_again}
@@ -15,7 +16,7 @@ use Rattle.lp_base.proofs.Rises.{few_ascending}
 use Rattle.lp_base.proofs.SumLaws.{sum_over-more, products_small}
 use Rattle.lpcc_case.specs.declared.constraint.Constraint.{Constraint}
 use Rattle.lpcc_case.specs.Instance.{Instance}
-use Rattle.lpcc_case.specs.Cases.{IsCase, IsConstraint, FitsCase, column_of}
+use Rattle.lpcc_case.specs.Cases.{IsCase, IsConstraint, FitsCase}
 use Rattle.lpcc_case.specs.NarrowPoints.{AreNumbersOf}
 use Rattle.lpcc_case.specs.Points.{left_side}
 
@@ -41,7 +42,7 @@ left_side_small c x i form few narrow =
     let P = λ (t : ℕ × ℤ). (unsigned_abs t.1 ≤ 2 ^ 52) × (unsigned_abs (get_or x t.0 (pos 0)) ≤ 2 ^ 63) in
     let both : All P c.terms = λ k d lt. ((form.coefficients k d lt).0, narrow_at x _ narrow (form.columns_named k d lt)) in
     let small = products_small (λ (t : ℕ × ℤ). t.1) (λ t. get_or x t.0 (pos 0)) (2 ^ 52) (2 ^ 63) (take i c.terms) (recursion_from_All P (take i c.terms) (All-take P i c.terms both)) in
-    omega (arith, small, length-take i c.terms, few_ascending column_of (length x) c.terms form.ascending form.columns_named, few)
+    omega (arith, small, length-take i c.terms, few_ascending number_of (length x) c.terms form.ascending form.columns_named, few)
 
 pub left_side_more : (c : Constraint) (x : List ℤ) (ts : List (ℕ × ℤ)) (i : ℕ) (s r : ℤ) → IsConstraint (length x) c → length x ≤ 1000 → All IsNarrow x → ts ≡ c.terms → i < length ts → s ≡ left_side (take i c.terms) x → r ≡ s +ℤ (to_z w64 (of_z w64 (get_or ts i (0, pos 0)).1) *ℤ to_z w64 (of_z w64 (get_or x (get_or ts i (0, pos 0)).0 (pos 0)))) → to_z w128 (of_z w128 r) ≡ left_side (take (i + 1) c.terms) x
 left_side_more c x ts i s r form few narrow same lt so_far e =

@@ -1,6 +1,7 @@
 -- The facts that a case keeps.
 use Rattle.std.specs.Prelude.{◌≡◌, ◌≢◌, ◌≤◌, ◌<◌, ◌^◌, ◌≤ℤ◌, ℕ, ℤ, pos, List, All, IsTrue, Some, length, slice_get, unsigned_abs}
-use Rattle.lp_base.specs.Ascending.{ascends_by}
+use Rattle.lp_base.specs.Ascending.{ascends_by, number_of}
+pub use Rattle.lp_base.specs.Ascending.{number_of as column_of}
 use Rattle.lpcc_case.specs.declared.constraint.Constraint.{Constraint}
 use Rattle.lpcc_case.specs.declared.constraint.Kind.TheVariants.{Ge}
 use Rattle.lpcc_case.specs.Instance.{Instance}
@@ -12,12 +13,9 @@ instance_of columns cost scale offset constraints pairs = record { columns = col
 abbrev pub FitsCase : ℤ → Type 0
 FitsCase z = unsigned_abs z ≤ 2 ^ 52
 
-abbrev pub column_of : ℕ × ℤ → ℕ
-column_of t = t.0
-
 -- the terms name columns that ascend strictly, and none is zero
 pub record IsConstraint (columns : ℕ) (c : Constraint) : Type 0 where
-  pub ascending : IsTrue (ascends_by column_of c.terms)
+  pub ascending : IsTrue (ascends_by number_of c.terms)
   pub columns_named : All (λ t. t.0 < columns) c.terms
   pub coefficients : All (λ t. FitsCase t.1 × (t.1 ≢ pos 0)) c.terms
   pub right : FitsCase c.rhs

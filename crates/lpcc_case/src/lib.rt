@@ -8,6 +8,7 @@ mod feasible;
 mod fits;
 mod form;
 mod laws;
+mod limits;
 mod point;
 mod sums;
 mod value;
@@ -23,6 +24,7 @@ pub use laws::{
     multiples_meet_the_same, point_is_below_where_lower, true_verdicts_are_the_same,
     value_is_that_of_the_point,
 };
+pub use limits::{MOST_COLUMNS, MOST_CONSTRAINTS, MOST_PAIRS};
 pub use point::{Point, Ray};
 pub use value::{lower, value_of, value_text};
 pub use verdict::Verdict;

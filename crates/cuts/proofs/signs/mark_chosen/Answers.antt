@@ -4,10 +4,10 @@ use Rattle.cuts.proofs.signs.mark_chosen.Goals as goal
 
 pub loop-choice-preserved : goal.loop-choice-preserved
 loop-choice-preserved c =
-    let room : c.number_of.result < length c.loop-choice.marks = omega (arith, c.number_of.ensures.within) in
+    let room : c.chosen_number.result < length c.loop-choice.marks = omega (arith, c.chosen_number.ensures.within) in
     record {
-      chosen = marks_from c.args.case.now c.args.choices.now c.loop-choice.marks c.loop-choice.choice-index c.number_of.result _ c.loop-choice-test.true c.number_of.ensures.value c.loop-choice.invariant.chosen;
-      marked = marks_more c.args.case.now c.args.choices.now c.loop-choice.marks c.loop-choice.choice-index c.number_of.result _ c.loop-choice-test.true room c.number_of.ensures.value c.loop-choice.invariant.marked;
+      chosen = marks_from c.args.case.now c.args.choices.now c.loop-choice.marks c.loop-choice.choice-index c.chosen_number.result _ c.loop-choice-test.true c.chosen_number.ensures.value c.loop-choice.invariant.chosen;
+      marked = marks_more c.args.case.now c.args.choices.now c.loop-choice.marks c.loop-choice.choice-index c.chosen_number.result _ c.loop-choice-test.true room c.chosen_number.ensures.value c.loop-choice.invariant.marked;
     }
 
 pub returns : goal.returns

@@ -1,6 +1,6 @@
 use Rattle.std.proofs.Common.{◌<◌, ◌∙◌, pos, ◌+ℤ◌, ◌*ℤ◌, ap, sym, length, get_or, to_z, of_z, arith}
-use Rattle.cuts.proofs.Steps.{again_small, narrow_again, added, room_at, holds_more}
-use Rattle.lp_base.proofs.Machine.{again}
+use Rattle.cuts.proofs.Steps.{added, room_at, holds_more}
+use Rattle.lp_base.proofs.Machine.{again, again_small, narrow_again}
 use mir.Syntax.{w64, w128}
 use Rattle.cuts.proofs.sums.add_terms.Goals as goal
 

@@ -1,5 +1,5 @@
 use Rattle.std.proofs.Common.{◌≡◌, ◌<◌, ℕ, pos, ◌+ℤ◌, ◌*ℤ◌, length, get_or, take}
-use Rattle.cuts.specs.Cuts.{coefficient}
+use Rattle.lpcc_case.specs.Points.{coefficient}
 use Rattle.cuts.proofs.sums.add_terms.Given as goal
 
 abbrev pub invariant-loop-term : goal.invariant-loop-term

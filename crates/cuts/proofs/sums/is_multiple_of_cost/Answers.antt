@@ -1,7 +1,8 @@
 use Rattle.std.proofs.Common.{◌<◌, ◌≡◌, ◌∙◌, sym, pos, ◌*ℤ◌, ap, arith, length, get_or, to_z, of_z}
 use borrow.Author.Count.{below_more}
 use mir.Syntax.{w64}
-use Rattle.cuts.proofs.Steps.{get_or-same, narrow_again, multiple_here}
+use Rattle.cuts.proofs.Steps.{get_or-same, multiple_here}
+use Rattle.lp_base.proofs.Machine.{narrow_again}
 use Rattle.cuts.proofs.sums.is_multiple_of_cost.Goals as goal
 
 pub add_constraints-requires-clause-zero : goal.add_constraints-requires-clause-zero
