@@ -4,6 +4,7 @@ use Rattle.nogoods.specs.declared.choice.Choice.{Choice}
 use Rattle.nogoods.specs.declared.choice.Side.{Side}
 use Rattle.nogoods.specs.Pieces.{Bars}
 use Rattle.lpcc_case.specs.Instance.{Instance}
+pub use Rattle.lpcc_case.specs.Pieces.{NamesPairs}
 use Rattle.lpcc_case.specs.Pieces.{BarsOnlyEmptyPieces}
 use Rattle.derivation.specs.declared.step.Step.{Step}
 use Rattle.derivation.specs.declared.step.Step.TheVariants.{Start, Derived}
@@ -15,9 +16,6 @@ no_good_of (Derived ng hints) = ng
 
 abbrev pub no_goods : List Step → List (List Choice)
 no_goods log = map no_good_of log
-
-abbrev pub NamesPairs : Instance → List Choice → Type 0
-NamesPairs a ng = NamesBelow (length a.pairs) ng
 
 -- the step follows from the no-goods before it
 abbrev pub Follows : List (List Choice) → Step → Type 0

@@ -5,13 +5,14 @@ ghost use Rattle.nogoods.specs.Choices.{same_choice};
 ghost use Rattle.derivation.specs.HintRuns.{NamesBelow};
 ghost use Rattle.derivation.specs.Flags.{flag_of, Shows};
 
+use lpcc_case::MOST_PAIRS;
 use nogoods::{Choice, Side};
 
-/// A flag for each side of 512 pairs: whether the choice is assumed.
+/// A flag for each side of as many pairs as a case may have: whether the choice is assumed.
 #[derive(Drop)]
 pub(crate) struct Assumed {
-    a: [bool; 512],
-    b: [bool; 512],
+    a: [bool; MOST_PAIRS],
+    b: [bool; MOST_PAIRS],
 }
 
 impl Assumed {
@@ -20,14 +21,14 @@ impl Assumed {
         ensures { Shows result [] }
     {
         Assumed {
-            a: [false; 512],
-            b: [false; 512],
+            a: [false; MOST_PAIRS],
+            b: [false; MOST_PAIRS],
         }
     }
 
     /// These choices.
     pub(crate) fn of(choices: &[Choice]) -> Assumed
-        requires { NamesBelow 512 choices.now }
+        requires { NamesBelow MOST_PAIRS choices.now }
         ensures { Shows result choices.now }
     {
         let mut assumed = Assumed::none();
@@ -39,7 +40,7 @@ impl Assumed {
 
     /// Whether the choice is assumed.
     pub(crate) fn has(&self, choice: Choice) -> bool
-        requires { choice.pair < 512 }
+        requires { choice.pair < MOST_PAIRS }
         ensures { result ≡ flag_of self.now choice }
     {
         match choice.side {
@@ -50,7 +51,7 @@ impl Assumed {
 
     /// Assumes the choice too.
     pub(crate) fn add(&mut self, choice: Choice)
-        requires { choice.pair < 512 }
+        requires { choice.pair < MOST_PAIRS }
         ensures { (c : ChosenSide) → flag_of self.new c ≡ (same_choice choice c || flag_of self.old c) }
     {
         match choice.side {

@@ -6,6 +6,7 @@ ghost use Rattle.derivation.specs.HintRuns.{NamesBelow, closes, unassumed};
 ghost use Rattle.derivation.specs.Flags.{IsLeft, Shows};
 
 use crate::assumed::Assumed;
+use lpcc_case::MOST_PAIRS;
 use nogoods::{Choice, NoGood, Side};
 
 /// No-goods in a row, counted from 0.
@@ -43,7 +44,7 @@ enum Left {
 }
 
 fn left_of(assumed: &Assumed, choices: &[Choice]) -> Left
-    requires { NamesBelow 512 choices.now }
+    requires { NamesBelow MOST_PAIRS choices.now }
     ensures { (list : List ChosenSide) → Shows assumed.now list → IsLeft result (unassumed list choices.now) }
 {
     let mut found = None;
@@ -67,8 +68,8 @@ fn left_of(assumed: &Assumed, choices: &[Choice]) -> Left
 /// one makes the other side of that one assumed, which may not be assumed before; a hint whose
 /// choices are all assumed closes the run, and is the last. It takes no memory.
 pub fn closes<N: NoGoods>(earlier: &N, ng: &NoGood, hints: &[u64]) -> bool
-    requires few_pairs { NamesBelow 512 ng.now }
-    requires few_earlier_pairs { All (NamesBelow 512) (N.list earlier.now) }
+    requires few_pairs { NamesBelow MOST_PAIRS ng.now }
+    requires few_earlier_pairs { All (NamesBelow MOST_PAIRS) (N.list earlier.now) }
     ensures { result ≡ closes (N.list earlier.now) ng.now hints.now }
 {
     let mut assumed = Assumed::of(ng.choices());

@@ -6,6 +6,7 @@ ghost use Rattle.derivation.specs.Logs.{IsLog, no_goods};
 
 use crate::{NoGoods, Step, closes};
 use lp_base::Sequence;
+use lpcc_case::MOST_PAIRS;
 use nogoods::{Choice, NoGood};
 use std::alloc::{AllocError, Global};
 use std::marker::Model;
@@ -86,8 +87,8 @@ impl NoGoods for Log {
 
 /// Whether the no-good follows from the steps of the log by these hints. It takes no memory.
 pub fn follows(log: &Log, ng: &NoGood, hints: &[u64]) -> bool
-    requires few_pairs { NamesBelow 512 ng.now }
-    requires few_pairs_before { All (NamesBelow 512) (no_goods log.now) }
+    requires few_pairs { NamesBelow MOST_PAIRS ng.now }
+    requires few_pairs_before { All (NamesBelow MOST_PAIRS) (no_goods log.now) }
     ensures { result ≡ closes (no_goods log.now) ng.now hints.now }
 {
     closes(log, ng, hints)
