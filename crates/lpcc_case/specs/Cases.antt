@@ -2,6 +2,7 @@
 use Rattle.std.specs.Prelude.{◌≡◌, ◌≢◌, ◌≤◌, ◌<◌, ◌^◌, ◌≤ℤ◌, ℕ, ℤ, pos, List, All, IsTrue, Some, length, slice_get, unsigned_abs}
 use Rattle.lp_base.specs.Ascending.{ascends_by, number_of}
 pub use Rattle.lp_base.specs.Ascending.{number_of as column_of}
+use Rattle.lpcc_case.specs.declared.limits.TheConstants.{MOST_COLUMNS, MOST_CONSTRAINTS, MOST_PAIRS}
 use Rattle.lpcc_case.specs.declared.constraint.Constraint.{Constraint}
 use Rattle.lpcc_case.specs.declared.constraint.Kind.TheVariants.{Ge}
 use Rattle.lpcc_case.specs.Instance.{Instance}
@@ -25,9 +26,9 @@ abbrev pub NamesInequality : List Constraint → ℕ → Type 0
 NamesInequality constraints k = (c : Constraint) × (slice_get constraints k ≡ Some c) × (c.kind ≡ Ge)
 
 pub record IsCase (a : Instance) : Type 0 where
-  pub few_columns : a.columns ≤ 1000
-  pub few_constraints : length a.constraints ≤ 2000
-  pub few_pairs : length a.pairs ≤ 512
+  pub few_columns : a.columns ≤ MOST_COLUMNS
+  pub few_constraints : length a.constraints ≤ MOST_CONSTRAINTS
+  pub few_pairs : length a.pairs ≤ MOST_PAIRS
   pub cost_length : length a.cost ≡ a.columns
   pub costs : All FitsCase a.cost
   pub scale_positive : pos 1 ≤ℤ a.scale

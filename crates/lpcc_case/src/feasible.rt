@@ -9,13 +9,13 @@ ghost use Rattle.lpcc_case.specs.Points as points;
 ghost use Rattle.lpcc_case.specs.Points.{Relates, MeetsAll, IsTightAt, IsComplementary, Recedes, left_side};
 
 use crate::sums::{cost_of, left_side, product};
-use crate::{Case, Constraint, Kind, Point, Ray};
+use crate::{Case, Constraint, Kind, MOST_COLUMNS, Point, Ray};
 use nogoods::{Choice, NoGood};
 
 /// Whether the left side at these numbers relates to d times the right side.
 fn relates(constraint: &Constraint, numbers: &[i64], d: i64) -> bool
     requires form { IsConstraint (length numbers.now) constraint.now }
-    requires few { length numbers.now ≤ 1000 }
+    requires few { length numbers.now ≤ MOST_COLUMNS }
     requires narrow { All IsNarrow numbers.now }
     requires factor { IsNarrow d }
     ensures { IsTrue result ↔ Relates constraint.now.kind (left_side constraint.now.terms numbers.now) (constraint.now.rhs *ℤ d) }

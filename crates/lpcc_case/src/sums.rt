@@ -6,7 +6,7 @@ ghost use Rattle.lpcc_case.specs.Cases.{FitsCase, IsConstraint};
 ghost use Rattle.lpcc_case.specs.NarrowPoints.{AreNumbersOf};
 ghost use Rattle.lpcc_case.specs.Points.{left_side};
 
-use crate::{Case, Constraint};
+use crate::{Case, Constraint, MOST_COLUMNS};
 
 /// A number of a case times a narrow one.
 pub fn product(fitting: i64, narrow: i64) -> i128
@@ -29,7 +29,7 @@ fn add_product(sum: i128, fitting: i64, narrow: i64) -> i128
 /// The left side of a constraint at these numbers, one for each column.
 pub fn left_side(constraint: &Constraint, numbers: &[i64]) -> i128
     requires form { IsConstraint (length numbers.now) constraint.now }
-    requires few { length numbers.now ≤ 1000 }
+    requires few { length numbers.now ≤ MOST_COLUMNS }
     requires narrow { All IsNarrow numbers.now }
     ensures { result ≡ left_side constraint.now.terms numbers.now }
 {
