@@ -1,5 +1,6 @@
 //! The test of a cut.
-ghost use Rattle.cuts.specs.Cuts.{IsJudged};
+ghost use Rattle.std.specs.Prelude.{◌≡◌, IfOk};
+ghost use Rattle.cuts.specs.Cuts.{IsJudged, right_sum};
 ghost use Rattle.cuts.specs.declared.cut.Cut.TheVariants as cut_of;
 
 use crate::places::is_indexed;
@@ -30,16 +31,12 @@ pub fn check_ray(case: &Case, ng: &NoGood, mult: &[(u32, i64)]) -> Result<(), Cu
     Ok(())
 }
 
-/// Tests a point cut, given by its parts as in `check_ray`, where the weighed sum of the
-/// constraints is to be `e` times the cost, at least `v`.
-pub fn check_point(
-    case: &Case,
-    ng: &NoGood,
-    mult: &[(u32, i64)],
-    e: i64,
-    v: i128,
-) -> Result<(), CutFault>
-    ensures judged { IsJudged case.now (cut_of.Point ng.now mult.now e v) result }
+/// Tests a point cut whose bound is `v / e` with `v` the weighed right sides, given by its parts as
+/// in `check_ray`, and gives this `v`. The weighed sum of the constraints is to be `e` times the
+/// cost.
+pub fn point_bound(case: &Case, ng: &NoGood, mult: &[(u32, i64)], e: i64) -> Result<i128, CutFault>
+    ensures judged { IsJudged case.now (cut_of.Point ng.now mult.now e (right_sum case.now mult.now)) result }
+    ensures value { IfOk result (λ v. v ≡ right_sum case.now mult.now) }
 {
     if !is_indexed(case, ng, mult) {
         return Err(CutFault::Index);
@@ -50,7 +47,21 @@ pub fn check_point(
     if e < 1 || !is_multiple_of_cost(case, mult, e) {
         return Err(CutFault::Sum);
     }
-    if right_sum(case, mult) != v {
+    Ok(right_sum(case, mult))
+}
+
+/// Tests a point cut, given by its parts, as `point_bound` does. Its `v` is to be the weighed right
+/// sides.
+pub fn check_point(
+    case: &Case,
+    ng: &NoGood,
+    mult: &[(u32, i64)],
+    e: i64,
+    v: i128,
+) -> Result<(), CutFault>
+    ensures judged { IsJudged case.now (cut_of.Point ng.now mult.now e v) result }
+{
+    if point_bound(case, ng, mult, e)? != v {
         return Err(CutFault::Bound);
     }
     Ok(())

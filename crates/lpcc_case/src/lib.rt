@@ -26,5 +26,6 @@ pub use laws::{
 };
 pub use limits::{MOST_COLUMNS, MOST_CONSTRAINTS, MOST_PAIRS};
 pub use point::{Point, Ray};
+pub use sums::cost_of;
 pub use value::{lower, value_of, value_text};
 pub use verdict::Verdict;

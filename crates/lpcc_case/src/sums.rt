@@ -40,7 +40,7 @@ pub fn left_side(constraint: &Constraint, numbers: &[i64]) -> i128
     sum
 }
 
-/// The sum of the costs times these numbers, one for each column.
+/// The sum of the costs times these numbers, narrow ones, one for each column. It takes no memory.
 pub fn cost_of(case: &Case, numbers: &[i64]) -> i128
     requires { AreNumbersOf case.now numbers.now }
     ensures { result ≡ dot case.now.cost numbers.now }
