@@ -1,5 +1,5 @@
 -- How the sums of columns grow, and how large they may be.
-use Rattle.std.proofs.Common.{ℕ, zero, suc, ◌+◌, ◌*◌, ◌^◌, ◌<◌, ◌≤◌, ◌≡◌, refl, ap, arith, ℤ, pos, ◌+ℤ◌, ◌*ℤ◌, IsTrue, Bool, true, false, cond, eqb, inl, inr, List, [], ◌∷◌, length, get_or, take}
+use Rattle.std.proofs.Common.{ℕ, zero, suc, ◌^◌, ◌<◌, ◌≤◌, ◌≡◌, refl, arith, ℤ, pos, ◌+ℤ◌, ◌*ℤ◌, IsTrue, Bool, true, false, cond, eqb, inl, inr, List, [], ◌∷◌, length, get_or, take}
 use Rattle.std.specs.Prelude.{All, unsigned_abs}
 use Rattle.std.specs.List.{AllByRecursion}
 use Rattle.std.proofs.lemmas.Int.{ints}

@@ -1,5 +1,5 @@
 -- Logs: no-goods that are known, and no-goods that follow from those before them.
-use Rattle.std.specs.Prelude.{◌≡◌, ℕ, true, List, Some, length, map, slice_get, take}
+use Rattle.std.specs.Prelude.{◌≡◌, ℕ, true, List, Some, map, slice_get, take}
 use Rattle.nogoods.specs.declared.choice.Choice.{Choice}
 use Rattle.nogoods.specs.declared.choice.Side.{Side}
 use Rattle.nogoods.specs.Pieces.{Bars}

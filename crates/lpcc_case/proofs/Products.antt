@@ -9,7 +9,7 @@ use Rattle.std.proofs.lemmas.List.Elements.{All-take, recursion_from_All}
 use mir.Syntax.{w64, w128}
 use Rattle.lp_base.specs.Ascending.{number_of}
 use Rattle.lp_base.specs.Numbers.{IsNarrow}
-use Rattle.lp_base.specs.Sums.{sum_over, dot}
+use Rattle.lp_base.specs.Sums.{dot}
 use Rattle.lp_base.proofs.Machine.{again, again_64, narrow_again}
 use Rattle.lp_base.proofs.Ring.{abs_add, abs_mul}
 use Rattle.lp_base.proofs.Rises.{few_ascending}

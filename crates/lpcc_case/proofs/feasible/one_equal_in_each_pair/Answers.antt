@@ -1,4 +1,4 @@
-use Rattle.std.proofs.Common.{ℕ, ℤ, ◌⊎◌, ◌≡◌, refl, sym, ◌∙◌, get_or, to_z, of_z}
+use Rattle.std.proofs.Common.{ℕ, ℤ, ◌⊎◌, refl, sym, ◌∙◌, to_z, of_z}
 use mir.Syntax.{w64}
 use Rattle.std.proofs.lemmas.Bool.{false≢true}
 use Rattle.std.proofs.lemmas.List.Elements.{All-more}

@@ -1,5 +1,4 @@
-use Rattle.std.proofs.Common.{◌^◌, ◌≡◌, rules, arith}
-use Rattle.std.proofs.lemmas.Int.{ints}
+use Rattle.std.proofs.Common.{rules, arith}
 use Rattle.lp_base.specs.Numbers.{IsNarrow}
 use Rattle.lp_base.proofs.Machine.{again}
 use Rattle.lpcc_case.proofs.Products.{given_product, positive_product}

@@ -1,4 +1,4 @@
-use Rattle.std.proofs.Common.{◌≡◌, ◌∙◌, rules, ap, ◌+ℤ◌}
+use Rattle.std.proofs.Common.{◌∙◌, rules, ap, ◌+ℤ◌}
 use Rattle.lp_base.specs.Numbers.{IsNarrow}
 use Rattle.lpcc_case.proofs.Products.{given_product, sum_again, sum_small}
 use Rattle.lpcc_case.proofs.value.numerator.Goals as goal
