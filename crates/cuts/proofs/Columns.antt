@@ -15,24 +15,8 @@ use Rattle.lpcc_case.specs.Instance.{Instance, constraint_at}
 use Rattle.lpcc_case.specs.Cases.{IsCase, FitsCase}
 use Rattle.lpcc_case.specs.Points.{coefficient}
 use Rattle.lpcc_case.proofs.Members.{constraint_of_case}
+use Rattle.lpcc_case.proofs.Shares.{share, share_after, share_before}
 use Rattle.cuts.specs.Cuts.{column_sum, right_sum, AreMultipliers}
-
--- what a term gives to column j
-abbrev pub share : ℕ × ℤ → ℕ → ℤ
-share t j = cond (eqb t.0 j) t.1 (pos 0)
-
-pub share_at : (k : ℕ) (v : ℤ) → cond (eqb k k) v (pos 0) ≡ v
-share_at k v = grind arith
-
-pub share_after : (k j : ℕ) (v : ℤ) → j < k → cond (eqb k j) v (pos 0) ≡ pos 0
-share_after k j v h = grind arith
-
--- a term of another column
-pub share_other : (k j : ℕ) (v : ℤ) → (j ≡ k → ⊥) → cond (eqb k j) v (pos 0) ≡ pos 0
-share_other k j v h = grind arith
-
-pub share_before : (k j : ℕ) (v : ℤ) → k < j → cond (eqb k j) v (pos 0) ≡ pos 0
-share_before k j v h = grind arith
 
 -- a column below all others of ascending terms has none of them
 coefficient_past : (t : ℕ × ℤ) (ts : List (ℕ × ℤ)) (j : ℕ) → IsTrue (ascends_by number_of (t ∷ ts)) → j ≤ t.0 → coefficient ts j ≡ pos 0

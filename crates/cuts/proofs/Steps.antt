@@ -16,8 +16,9 @@ use Rattle.lpcc_case.specs.Cases.{IsCase, FitsCase}
 use Rattle.lpcc_case.specs.Points.{coefficient}
 use Rattle.lpcc_case.proofs.Members.{constraint_of_case}
 use Rattle.lpcc_case.proofs.Products.{fitting_again}
+use Rattle.lpcc_case.proofs.Shares.{share, share_at, share_other}
 use Rattle.cuts.specs.Cuts.{column_sum, right_sum, AreMultipliers}
-use Rattle.cuts.proofs.Columns.{share, share_at, share_other, coefficient_before, column_sum_small, right_sum_small}
+use Rattle.cuts.proofs.Columns.{coefficient_before, column_sum_small, right_sum_small}
 
 -- a list of one value only
 pub get_or-same : {A : Type 0} (n j : ℕ) (d : A) → get_or (replicate n d) j d ≡ d

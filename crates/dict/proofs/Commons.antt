@@ -8,7 +8,8 @@ use Rattle.std.specs.Int.{IsGcd}
 use Prim.Native.Nat.{◌∣◌}
 use mir.Syntax.{w128}
 use Rattle.lp_base.proofs.Machine.{again}
-use Rattle.dict.specs.Terms.{AreTerms, coefficient}
+use Rattle.lpcc_case.specs.Points.{coefficient}
+use Rattle.dict.specs.Terms.{AreTerms}
 use Rattle.dict.specs.Equations.{Equation, equation, Divides, DividesEach, IsCommon, scale}
 use Rattle.dict.proofs.SparseSums.{unroll, past_end, coefficient_below, terms_from}
 

@@ -1,5 +1,5 @@
 -- A row over independent forms is determined but for a factor, and where it is reduced it divides every other.
-use Rattle.std.proofs.Common.{ℕ, zero, suc, ◌+◌, ◌*◌, ◌/◌, ◌%◌, ◌≤◌, ◌<◌, ◌≡◌, ◌∙◌, refl, sym, ap, subst, arith, ℤ, pos, negsuc, ◌+ℤ◌, ◌-ℤ◌, ◌*ℤ◌, ◌<ℤ◌, neg_ℤ, List, [], ◌∷◌, ◌++◌}
+use Rattle.std.proofs.Common.{ℕ, zero, suc, ◌+◌, ◌*◌, ◌/◌, ◌%◌, ◌≤◌, ◌<◌, ◌≡◌, ◌∙◌, refl, sym, ap, subst, arith, ℤ, pos, negsuc, ◌+ℤ◌, ◌-ℤ◌, ◌*ℤ◌, ◌<ℤ◌, neg_ℤ, List, [], ◌∷◌, ◌++◌, cond, eqb}
 use Rattle.std.specs.List.{AllByRecursion}
 use Rattle.std.specs.Int.{IsGcd}
 use Rattle.std.specs.Prelude.{unsigned_abs, ⊤}
@@ -9,10 +9,12 @@ use Rattle.std.proofs.Math.Nat.{div-add-mod, mod-lt, dvd-add_iff_right, dvd-mul_
 use Rattle.std.proofs.Math.IntN.{zero-*ℤ, *ℤ-zero, +ℤ_idl}
 use Prim.Native.Nat.{◌∣◌}
 use Rattle.lp_base.proofs.Ring.{mul_add_right, mul_assoc, mul_comm}
-use Rattle.dict.specs.Terms.{weigh, coefficient, only, without, AreTerms}
+use Rattle.lpcc_case.specs.Points.{coefficient}
+use Rattle.dict.specs.Terms.{weigh, only, without, AreTerms}
 use Rattle.dict.specs.Equations.{Equation, Holds, DividesEach, IsReduced, IsRow, IsMultiple, scale}
 use Rattle.dict.specs.Forms.{Affine, IsRowOf, AreIndependent}
-use Rattle.dict.proofs.SparseSums.{weigh_append, weigh_scale, weigh_split, times_one, without_same, coefficient_at, coefficient_below, terms_below, only_apart}
+use Rattle.dict.proofs.SparseSums.{weigh_append, weigh_only, weigh_scale, weigh_split, times_one, without_same, coefficient_at, coefficient_below, terms_below}
+use Rattle.lpcc_case.proofs.Shares.{share_other}
 use Rattle.dict.proofs.Reduces.{cancel, to_end}
 use Rattle.dict.proofs.Enters.{neg_times}
 use Rattle.dict.proofs.Machine.{is_pos}
@@ -60,6 +62,13 @@ apart_is q m v =
     let n : weigh m.entries v *ℤ neg_ℤ q.den ≡ neg_ℤ (weigh m.entries v *ℤ q.den) = mul_comm (weigh m.entries v) (neg_ℤ q.den) ∙ neg_times q.den (weigh m.entries v) ∙ ap neg_ℤ (mul_comm q.den (weigh m.entries v)) in
     omega (arith, ints, weigh_append (scale m.den q.entries) (scale (neg_ℤ q.den) m.entries) v, weigh_scale m.den q.entries v, weigh_scale (neg_ℤ q.den) m.entries v, n)
 
+apart_at : (q m : Equation) (j : ℕ) → coefficient (apart q m) j ≡ (coefficient q.entries j *ℤ m.den) -ℤ (coefficient m.entries j *ℤ q.den)
+apart_at q m j =
+    sym (weigh_only (apart q m) j)
+    ∙ apart_is q m (only j)
+    ∙ ap (λ z. (z *ℤ m.den) -ℤ (weigh m.entries (only j) *ℤ q.den)) (weigh_only q.entries j)
+    ∙ ap (λ z. (coefficient q.entries j *ℤ m.den) -ℤ (z *ℤ q.den)) (weigh_only m.entries j)
+
 -- both rows at one place
 crossed : (q m : Equation) (f one : ℤ) (v : ℕ → ℤ) → Holds q f v one → Holds m f v one → (weigh q.entries v *ℤ m.den) +ℤ ((q.constant *ℤ one) *ℤ m.den) ≡ (weigh m.entries v *ℤ q.den) +ℤ ((m.constant *ℤ one) *ℤ q.den)
 crossed q m f one v hq hm =
@@ -88,7 +97,7 @@ determined n q m f g independent bq bm hq hm =
           let z : (m.constant *ℤ pos 1) *ℤ q.den ≡ m.constant *ℤ q.den = ap (λ z. z *ℤ q.den) (times_one m.constant) in
           omega (arith, ints, c, s, y, z);
       entries = λ j.
-          let s = sym (apart_is q m (only j)) ∙ none j in
+          let s = sym (apart_at q m j) ∙ none j in
           omega (arith, ints, s);
     }
 
@@ -156,7 +165,7 @@ zero_times k = omega arith
 
 later : (p j : ℕ) (z : ℤ) (ts : List (ℕ × ℤ)) → p + 1 ≤ j → coefficient ((p, z) ∷ ts) j ≡ coefficient ts j
 later p j z ts h =
-    let e : z *ℤ only j p ≡ pos 0 = ap (λ y. z *ℤ y) (only_apart j p (λ eq. omega (arith, h, eq))) ∙ *ℤ-zero z in
+    let e : cond (eqb p j) z (pos 0) ≡ pos 0 = share_other p j z (λ eq. omega (arith, h, eq)) in
     omega (arith, ints, e)
 
 some_times : (q d k : ℕ) → 0 < k → q * d ≡ k → 0 < q

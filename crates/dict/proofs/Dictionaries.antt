@@ -6,7 +6,8 @@ use Rattle.std.proofs.lemmas.List.Sorted.{IsPermutation-trans}
 use Rattle.lpcc_case.specs.declared.form.Form.{Form}
 use Rattle.lpcc_case.specs.declared.form.Form.TheVariants.{Cost}
 use Rattle.lpcc_case.specs.Instance.{Instance}
-use Rattle.dict.specs.Terms.{coefficient, without}
+use Rattle.lpcc_case.specs.Points.{coefficient}
+use Rattle.dict.specs.Terms.{without}
 use Rattle.dict.specs.Equations.{Equation, Holds, IsRow}
 use Rattle.dict.specs.Dictionaries.{Dictionary, row_at, form_at, IsDictionary, AllHold, basic_after, nonbasic_after, IsWideRow}
 use Rattle.dict.specs.Pivots.{IsAfter, IsWidePlace}

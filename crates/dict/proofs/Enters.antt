@@ -8,7 +8,8 @@ use Rattle.std.proofs.Math.IntN.{zero-*ℤ, *ℤ-zero, +ℤ_idl}
 use Rattle.std.specs.Prelude.{unsigned_abs}
 use Prim.Native.Nat.{◌∣◌}
 use Rattle.lp_base.proofs.Ring.{mul_add_right}
-use Rattle.dict.specs.Terms.{weigh, coefficient, AreTerms, without}
+use Rattle.lpcc_case.specs.Points.{coefficient}
+use Rattle.dict.specs.Terms.{weigh, AreTerms, without}
 use Rattle.dict.specs.Equations.{Equation, equation, IsRow, IsReduced, DividesEach}
 use Rattle.dict.specs.Exchanges.{Enters, turn, entered}
 use Rattle.dict.proofs.SparseSums.{coefficient_below, past_end, unroll, weigh_split, weigh_same, without_above}
@@ -59,13 +60,13 @@ enter_absent bound low high flip e den (t ∷ ts) w all h =
     rw (not_here t.0 e (turn (not flip) den) (turn flip t.1) below, r, without_above e t.0 w below, turn_times flip t.1 (w t.0)) (sym (turn_add flip (t.1 *ℤ w t.0) (weigh ts (without e w))))
 
 -- where e has a term
-present_by : (b : Bool) (bound low high : ℕ) (flip : Bool) (e : ℕ) (den : ℤ) (t : ℕ × ℤ) (ts : List (ℕ × ℤ)) (w : ℕ → ℤ) → AreTerms bound low high (t ∷ ts) → eqb t.0 e ≡ b → ((t.1 *ℤ cond b (pos 1) (pos 0)) +ℤ coefficient ts e ≡ pos 0 → ⊥) → ((coefficient ts e ≡ pos 0 → ⊥) → weigh (entered flip e den ts) w ≡ turn (not flip) (den *ℤ w e) +ℤ turn flip (weigh ts (without e w))) → (cond b (turn (not flip) den) (turn flip t.1) *ℤ w t.0) +ℤ weigh (entered flip e den ts) w ≡ turn (not flip) (den *ℤ w e) +ℤ turn flip ((t.1 *ℤ cond b (pos 0) (w t.0)) +ℤ weigh ts (without e w))
+present_by : (b : Bool) (bound low high : ℕ) (flip : Bool) (e : ℕ) (den : ℤ) (t : ℕ × ℤ) (ts : List (ℕ × ℤ)) (w : ℕ → ℤ) → AreTerms bound low high (t ∷ ts) → eqb t.0 e ≡ b → (cond b t.1 (pos 0) +ℤ coefficient ts e ≡ pos 0 → ⊥) → ((coefficient ts e ≡ pos 0 → ⊥) → weigh (entered flip e den ts) w ≡ turn (not flip) (den *ℤ w e) +ℤ turn flip (weigh ts (without e w))) → (cond b (turn (not flip) den) (turn flip t.1) *ℤ w t.0) +ℤ weigh (entered flip e den ts) w ≡ turn (not flip) (den *ℤ w e) +ℤ turn flip ((t.1 *ℤ cond b (pos 0) (w t.0)) +ℤ weigh ts (without e w))
 present_by true bound low high flip e den t ts w all is some rest =
     let same = eqb-true t.0 e is in
     let r = enter_absent bound (t.0 + 1) high flip e den ts w all.3 (omega (arith, same)) in
     rw (r, *ℤ-zero t.1, +ℤ_idl (weigh ts (without e w)), turn_times (not flip) den (w t.0)) (ap (λ j. turn (not flip) (den *ℤ w j) +ℤ turn flip (weigh ts (without e w))) same)
 present_by false bound low high flip e den t ts w all is some rest =
-    let none : (coefficient ts e ≡ pos 0 → ⊥) = λ z. some (rw (*ℤ-zero t.1, z) refl) in
+    let none : (coefficient ts e ≡ pos 0 → ⊥) = λ z. some (rw z refl) in
     rw (rest none, turn_times flip t.1 (w t.0), turn_add flip (t.1 *ℤ w t.0) (weigh ts (without e w))) (omega (arith, ints))
 
 enter_present : (bound low high : ℕ) (flip : Bool) (e : ℕ) (den : ℤ) (ts : List (ℕ × ℤ)) (w : ℕ → ℤ) → AreTerms bound low high ts → (coefficient ts e ≡ pos 0 → ⊥) → weigh (entered flip e den ts) w ≡ turn (not flip) (den *ℤ w e) +ℤ turn flip (weigh ts (without e w))
@@ -117,14 +118,14 @@ back_absent bound low high d flip e den (t ∷ ts) all h divides =
       back_absent bound (t.0 + 1) high d flip e den ts all.3 (omega (arith, below)) divides.1,
     )
 
-back_by : (b : Bool) (bound low high d : ℕ) (flip : Bool) (e : ℕ) (den : ℤ) (t : ℕ × ℤ) (ts : List (ℕ × ℤ)) → AreTerms bound low high (t ∷ ts) → eqb t.0 e ≡ b → ((t.1 *ℤ cond b (pos 1) (pos 0)) +ℤ coefficient ts e ≡ pos 0 → ⊥) → d ∣ unsigned_abs ((t.1 *ℤ cond b (pos 1) (pos 0)) +ℤ coefficient ts e) → d ∣ unsigned_abs (cond b (turn (not flip) den) (turn flip t.1)) → DividesEach d (entered flip e den ts) → ((coefficient ts e ≡ pos 0 → ⊥) → d ∣ unsigned_abs (coefficient ts e) → DividesBack d den ts) → DividesBack d den (t ∷ ts)
+back_by : (b : Bool) (bound low high d : ℕ) (flip : Bool) (e : ℕ) (den : ℤ) (t : ℕ × ℤ) (ts : List (ℕ × ℤ)) → AreTerms bound low high (t ∷ ts) → eqb t.0 e ≡ b → (cond b t.1 (pos 0) +ℤ coefficient ts e ≡ pos 0 → ⊥) → d ∣ unsigned_abs (cond b t.1 (pos 0) +ℤ coefficient ts e) → d ∣ unsigned_abs (cond b (turn (not flip) den) (turn flip t.1)) → DividesEach d (entered flip e den ts) → ((coefficient ts e ≡ pos 0 → ⊥) → d ∣ unsigned_abs (coefficient ts e) → DividesBack d den ts) → DividesBack d den (t ∷ ts)
 back_by true bound low high d flip e den t ts all is some p head tail rest =
     let same = eqb-true t.0 e is in
     let z : coefficient ts e ≡ pos 0 = coefficient_below bound (t.0 + 1) high ts e all.3 (omega (arith, same)) in
-    let one : (t.1 *ℤ pos 1) +ℤ coefficient ts e ≡ t.1 = omega (arith, ints, z) in
+    let one : t.1 +ℤ coefficient ts e ≡ t.1 = omega (arith, ints, z) in
     (subst (λ (n : ℕ). d ∣ n) (turn_abs (not flip) den) head, (subst (λ (n : ℕ). d ∣ n) (ap unsigned_abs one) p, back_absent bound (t.0 + 1) high d flip e den ts all.3 (omega (arith, same)) tail))
 back_by false bound low high d flip e den t ts all is some p head tail rest =
-    let one : (t.1 *ℤ pos 0) +ℤ coefficient ts e ≡ coefficient ts e = rw (*ℤ-zero t.1) (+ℤ_idl (coefficient ts e)) in
+    let one : pos 0 +ℤ coefficient ts e ≡ coefficient ts e = +ℤ_idl (coefficient ts e) in
     let r = rest (λ z. some (one ∙ z)) (subst (λ (n : ℕ). d ∣ n) (ap unsigned_abs one) p) in
     (r.0, (subst (λ (n : ℕ). d ∣ n) (turn_abs flip t.1) head, r.1))
 

@@ -4,7 +4,8 @@ use Rattle.std.proofs.Math.Nat.{mul-le-mul}
 use Rattle.std.proofs.lemmas.Int.{ints}
 use Rattle.std.proofs.Math.IntN.{zero-*ℤ, +ℤ_idl}
 use Rattle.lp_base.proofs.Ring.{mul_add_right, mul_add_left, mul_assoc, mul_comm}
-use Rattle.dict.specs.Terms.{weigh, coefficient, without}
+use Rattle.lpcc_case.specs.Points.{coefficient}
+use Rattle.dict.specs.Terms.{weigh, without}
 use Rattle.dict.specs.Equations.{Equation, equation, IsReducedOf, IsRow}
 use Rattle.dict.specs.Exchanges.{Carries, IsNext, IsWideAt, IsWideNext}
 use Rattle.dict.proofs.SparseSums.{weigh_split, weigh_same}

@@ -6,10 +6,11 @@ use Rattle.std.proofs.lemmas.Int.{ints, unsigned_abs-mul}
 use Rattle.std.proofs.Math.Nat.{mul-le-mul}
 use Rattle.std.proofs.Math.IntN.{zero-*ℤ, *ℤ-zero, +ℤ_idr}
 use Rattle.lp_base.proofs.Ring.{mul_add_right, mul_assoc, mul_comm}
-use Rattle.dict.specs.Terms.{weigh, coefficient, only, without}
+use Rattle.lpcc_case.specs.Points.{coefficient}
+use Rattle.dict.specs.Terms.{weigh, only, without}
 use Rattle.dict.specs.Equations.{Equation, scale}
 use Rattle.dict.specs.Forms.{Affine, IsRowOf, AreIndependent}
-use Rattle.dict.proofs.SparseSums.{weigh_append, weigh_scale, weigh_split, weigh_same, weigh_none, without_same, without_apart}
+use Rattle.dict.proofs.SparseSums.{weigh_append, weigh_scale, weigh_only, weigh_split, weigh_same, weigh_none, without_same, without_apart}
 use Rattle.dict.proofs.Pivots.{by_lt, by_eq}
 
 pub all_scale : (n : ℕ) (g : ℤ) (ts : List (ℕ × ℤ)) → AllByRecursion (λ t. t.0 < n) ts → AllByRecursion (λ t. t.0 < n) (scale g ts)
@@ -69,9 +70,10 @@ independent_after n e q f g g' independent bq row some_den some at_e same c bc s
     let u : (a *ℤ f x (pos 0)) *ℤ q.den ≡ weigh q.entries v *ℤ a = mul_assoc a (f x (pos 0)) q.den ∙ ap (λ z. a *ℤ z) (mul_comm (f x (pos 0)) q.den ∙ r) ∙ mul_comm a (weigh q.entries v) in
     is v ∙ ap (λ z. (weigh q.entries v *ℤ a) +ℤ (z *ℤ q.den)) rest ∙ ap (λ z. z +ℤ (weigh c (without e w) *ℤ q.den)) (sym u) ∙ sym (mul_add_right q.den (a *ℤ f x (pos 0)) (weigh c (without e w))) ∙ t in
     let none : (j : ℕ) → coefficient both j ≡ pos 0 = independent both (all_append n (scale a q.entries) (scale q.den (drop_at e c)) (all_scale n a q.entries bq) (all_scale n q.den (drop_at e c) (drop_all n e c bc))) zero_sum in
+    let is_at : (j : ℕ) → coefficient both j ≡ (coefficient q.entries j *ℤ a) +ℤ (weigh c (without e (only j)) *ℤ q.den) = λ j. sym (weigh_only both j) ∙ is (only j) ∙ ap (λ z. (z *ℤ a) +ℤ (weigh c (without e (only j)) *ℤ q.den)) (weigh_only q.entries j) in
     let here : a ≡ pos 0 =
     let z : weigh c (without e (only e)) ≡ pos 0 = weigh_none c (without e (only e)) (nothing_at e) in
-    let p : (coefficient q.entries e *ℤ a) +ℤ (weigh c (without e (only e)) *ℤ q.den) ≡ pos 0 = sym (is (only e)) ∙ none e in
+    let p : (coefficient q.entries e *ℤ a) +ℤ (weigh c (without e (only e)) *ℤ q.den) ≡ pos 0 = sym (is_at e) ∙ none e in
     let y : weigh c (without e (only e)) *ℤ q.den ≡ pos 0 = ap (λ i. i *ℤ q.den) z ∙ zero-*ℤ q.den in
     let o : coefficient q.entries e *ℤ a ≡ pos 0 = omega (arith, ints, p, y) in
     zero_factor (coefficient q.entries e) a o some in
@@ -79,8 +81,8 @@ independent_after n e q f g g' independent bq row some_den some at_e same c bc s
     by_eq j e
     (λ eq. ap (λ i. coefficient c i) eq ∙ here)
     (λ other.
-    let x : weigh c (without e (only j)) ≡ coefficient c j = weigh_same c (without e (only j)) (only j) (λ i. only_without e j i other) in
-    let p : (coefficient q.entries j *ℤ a) +ℤ (weigh c (without e (only j)) *ℤ q.den) ≡ pos 0 = sym (is (only j)) ∙ none j in
+    let x : weigh c (without e (only j)) ≡ coefficient c j = weigh_same c (without e (only j)) (only j) (λ i. only_without e j i other) ∙ weigh_only c j in
+    let p : (coefficient q.entries j *ℤ a) +ℤ (weigh c (without e (only j)) *ℤ q.den) ≡ pos 0 = sym (is_at j) ∙ none j in
     let y : coefficient q.entries j *ℤ a ≡ pos 0 = ap (λ i. coefficient q.entries j *ℤ i) here ∙ *ℤ-zero (coefficient q.entries j) in
     let o : coefficient c j *ℤ q.den ≡ pos 0 = ap (λ i. i *ℤ q.den) (sym x) ∙ omega (arith, ints, p, y) in
     zero_factor q.den (coefficient c j) (mul_comm q.den (coefficient c j) ∙ o) some_den)

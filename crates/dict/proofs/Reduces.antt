@@ -6,11 +6,12 @@ use Rattle.std.proofs.lemmas.Nat.Gcd.{le_of_dvd}
 use Rattle.std.specs.Prelude.{unsigned_abs}
 use Prim.Native.Nat.{◌∣◌}
 use Rattle.lp_base.proofs.Ring.{mul_add_right, mul_assoc, mul_comm, mul_le_right}
-use Rattle.dict.specs.Terms.{weigh, coefficient, only, AreTerms}
+use Rattle.lpcc_case.specs.Points.{coefficient}
+use Rattle.dict.specs.Terms.{weigh, only, AreTerms}
 use Rattle.dict.specs.Equations.{Equation, equation, Divides, DividesEach, IsCommon, IsReducedOf, IsRow, Holds, number_at, scale, scaled}
 use Rattle.dict.specs.Exchanges.{IsWideAt}
 use Rattle.dict.proofs.Machine.{is_pos}
-use Rattle.dict.proofs.SparseSums.{weigh_scale}
+use Rattle.dict.proofs.SparseSums.{weigh_scale, weigh_only}
 use Rattle.dict.proofs.Commons.{NarrowEach}
 
 divides_times : (d g : ℕ) (a : ℤ) → d ∣ unsigned_abs a → d * g ∣ unsigned_abs (a *ℤ pos g)
@@ -63,7 +64,7 @@ pub number_times : (places at : ℕ) (q m : Equation) (g : ℤ) → m.constant �
 number_times places at q m g hc hd he = number_by (eqb at places) (eqb at (places + 1)) q.constant q.den (coefficient q.entries at) m.constant m.den (coefficient m.entries at) g hc hd he
 
 pub number_scaled : (places at : ℕ) (q : Equation) (g : ℤ) → number_at places (scaled g q) at ≡ number_at places q at *ℤ g
-number_scaled places at q g = number_times places at q (scaled g q) g refl refl (weigh_scale g q.entries (only at))
+number_scaled places at q g = number_times places at q (scaled g q) g refl refl (sym (weigh_only (scale g q.entries) at) ∙ weigh_scale g q.entries (only at) ∙ ap (λ z. z *ℤ g) (weigh_only q.entries at))
 
 pub number_den : (places : ℕ) (q : Equation) → number_at places q (places + 1) ≡ q.den
 number_den places q = grind arith

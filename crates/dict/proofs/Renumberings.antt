@@ -1,5 +1,5 @@
 -- The dictionary at a list of forms is one and the same, up to order.
-use Rattle.std.proofs.Common.{ℕ, zero, suc, ◌*◌, ◌≤◌, ◌<◌, ◌≡◌, ◌∙◌, refl, sym, ap, subst, arith, ℤ, pos, negsuc, ◌+ℤ◌, ◌*ℤ◌, ◌<ℤ◌, List, [], ◌∷◌, ◌++◌, length}
+use Rattle.std.proofs.Common.{ℕ, zero, suc, ◌*◌, ◌≤◌, ◌<◌, ◌≡◌, ◌∙◌, refl, sym, ap, subst, arith, ℤ, pos, negsuc, ◌+ℤ◌, ◌*ℤ◌, ◌<ℤ◌, List, [], ◌∷◌, ◌++◌, length, cond, eqb}
 use Rattle.std.proofs.lemmas.Int.{ints}
 use Rattle.std.proofs.lemmas.Nat.Gcd.{dvd-zero, dvd_antisymm}
 use Rattle.std.proofs.Math.Nat.{dvd-mul_left}
@@ -9,12 +9,14 @@ use Rattle.std.specs.List.{AllByRecursion}
 use Prim.Native.Nat.{◌∣◌}
 use Rattle.lpcc_case.specs.declared.form.Form.{Form}
 use Rattle.lpcc_case.specs.Instance.{Instance}
-use Rattle.dict.specs.Terms.{weigh, coefficient, only}
+use Rattle.lpcc_case.specs.Points.{coefficient}
+use Rattle.dict.specs.Terms.{weigh, only}
 use Rattle.dict.specs.Equations.{Equation, equation, Holds, Divides, DividesEach}
 use Rattle.dict.specs.Dictionaries.{Dictionary, row_at, form_at}
 use Rattle.dict.specs.Forms.{Affine, AreIndependent, IsDictionaryAt, IsRenumbering, IsRenumbered, affine_of, affine_at}
 use Rattle.dict.proofs.Machine.{is_pos}
-use Rattle.dict.proofs.SparseSums.{weigh_same_below, terms_below, only_same, only_apart}
+use Rattle.dict.proofs.SparseSums.{weigh_only, weigh_same_below, terms_below, only_same, only_apart}
+use Rattle.lpcc_case.proofs.Shares.{share_other}
 use Rattle.dict.proofs.Reduces.{cancel}
 use Rattle.dict.proofs.Pivots.{by_lt, by_eq}
 use Rattle.dict.proofs.Determined.{IsSameRow, determined, common_of, EachTimes, each_times, divides_cross}
@@ -36,12 +38,14 @@ below_renumber to n n' (t ∷ ts) within all = (within t.0 all.0, below_renumber
 
 coefficient_renumber : (to : ℕ → ℕ) (n' l : ℕ) (ts : List (ℕ × ℤ)) → ((j : ℕ) → j < n' → to j ≡ to l → j ≡ l) → AllByRecursion (λ t. t.0 < n') ts → coefficient (renumber to ts) (to l) ≡ coefficient ts l
 coefficient_renumber to n' l ts injective all =
-    weigh_renumber to ts (only (to l))
+    sym (weigh_only (renumber to ts) (to l))
+    ∙ weigh_renumber to ts (only (to l))
     ∙ weigh_same_below n' ts (λ j. only (to l) (to j)) (only l) all
     (λ j h.
     by_eq j l
     (λ same. ap (λ i. only (to l) (to i)) same ∙ only_same (to l) ∙ sym (ap (λ i. only l i) same ∙ only_same l))
     (λ other. only_apart (to l) (to j) (λ e. other (injective j h e)) ∙ sym (only_apart l j other)))
+    ∙ weigh_only ts l
 
 difference : (a b : ℤ) → a ≡ b → (pos 1 *ℤ a) +ℤ ((negsuc 0 *ℤ b) +ℤ pos 0) ≡ pos 0
 difference a b e = omega (arith, ints, e)
@@ -57,7 +61,7 @@ distinct n g j l independent hj hl same =
     let c : List (ℕ × ℤ) = (j, pos 1) ∷ (l, negsuc 0) ∷ [] in
     let sum : (x : ℕ → ℤ) → weigh c (λ i. g i x (pos 0)) ≡ pos 0 = λ x. difference (g j x (pos 0)) (g l x (pos 0)) (same x) in
     let none : coefficient c j ≡ pos 0 = independent c (hj, (hl, tt)) sum j in
-    absurd (one_apart (only j j) (only j l) (only_same j) (only_apart j l (λ e. other (sym e))) none))
+    absurd (one_apart (only j j) (only j l) (only_same j) (only_apart j l (λ e. other (sym e))) (weigh_only c j ∙ none)))
 
 -- all numbers of all rows, but the denominators
 numbers : List Equation → List (ℕ × ℤ)
@@ -138,7 +142,7 @@ same_entry a places rows back d t i k l b hi hk hl same =
 past_places : (n l : ℕ) (ts : List (ℕ × ℤ)) → n ≤ l → AllByRecursion (λ t. t.0 < n) ts → coefficient ts l ≡ pos 0
 past_places n l [] h all = refl
 past_places n l (t ∷ ts) h all =
-    let e : t.1 *ℤ only l t.0 ≡ pos 0 = ap (λ z. t.1 *ℤ z) (only_apart l t.0 (λ same. omega (arith, all.0, h, same))) ∙ *ℤ-zero t.1 in
+    let e : cond (eqb t.0 l) t.1 (pos 0) ≡ pos 0 = share_other t.0 l t.1 (λ same. omega (arith, all.0, h, same)) in
     omega (arith, ints, e, past_places n l ts h all.1)
 
 back_inside : (a : Instance) (places rows back : ℕ → ℕ) (d t : Dictionary) (i : ℕ) → Both a places rows back d t → i < length d.rows → back i < length t.rows

@@ -8,7 +8,9 @@ use Rattle.std.specs.Prelude.{unsigned_abs}
 use Rattle.std.specs.List.{AllByRecursion}
 use Rattle.lp_base.proofs.Ring.{mul_add_right, mul_add_left, mul_assoc, mul_comm}
 use Rattle.lp_base.proofs.SumLaws.{sum_over-append}
-use Rattle.dict.specs.Terms.{weigh, coefficient, only, without, AreTerms}
+use Rattle.lpcc_case.specs.Points.{coefficient}
+use Rattle.lpcc_case.proofs.Shares.{share_at, share_after, share_before}
+use Rattle.dict.specs.Terms.{weigh, only, without, AreTerms}
 use Rattle.dict.specs.Equations.{scale}
 
 pub times_one : (z : ℤ) → z *ℤ pos 1 ≡ z
@@ -20,12 +22,6 @@ only_same k = grind arith
 
 pub only_apart : (k j : ℕ) → (j ≡ k → ⊥) → only k j ≡ pos 0
 only_apart k j h = grind arith
-
-only_above : (k j : ℕ) → k < j → only k j ≡ pos 0
-only_above k j h = grind arith
-
-only_below : (k j : ℕ) → j < k → only k j ≡ pos 0
-only_below k j h = grind arith
 
 pub without_same : (e : ℕ) (v : ℕ → ℤ) → without e v e ≡ pos 0
 without_same e v = grind arith
@@ -63,13 +59,25 @@ split_by false e j v h = omega (arith, ints)
 point_split : (e j : ℕ) (v : ℕ → ℤ) → v j ≡ (only e j *ℤ v e) +ℤ without e v j
 point_split e j v = split_by (eqb j e) e j v refl
 
-pub weigh_split : (ts : List (ℕ × ℤ)) (e : ℕ) (v : ℕ → ℤ) → weigh ts v ≡ (coefficient ts e *ℤ v e) +ℤ weigh ts (without e v)
-weigh_split [] e v = omega (arith, ints)
-weigh_split (t ∷ ts) e v =
+split_at : (ts : List (ℕ × ℤ)) (e : ℕ) (v : ℕ → ℤ) → weigh ts v ≡ (weigh ts (only e) *ℤ v e) +ℤ weigh ts (without e v)
+split_at [] e v = omega (arith, ints)
+split_at (t ∷ ts) e v =
     let p : t.1 *ℤ v t.0 ≡ (t.1 *ℤ (only e t.0 *ℤ v e)) +ℤ (t.1 *ℤ without e v t.0) = ap (λ z. t.1 *ℤ z) (point_split e t.0 v) ∙ mul_add_left t.1 (only e t.0 *ℤ v e) (without e v t.0) in
     let q = mul_assoc t.1 (only e t.0) (v e) in
-    let r = mul_add_right (v e) (t.1 *ℤ only e t.0) (coefficient ts e) in
-    omega (arith, ints, p, weigh_split ts e v, r, q)
+    let r = mul_add_right (v e) (t.1 *ℤ only e t.0) (weigh ts (only e)) in
+    omega (arith, ints, p, split_at ts e v, r, q)
+
+-- a coefficient is the sum where one place is worth 1
+share_by : (b : Bool) (z : ℤ) → z *ℤ cond b (pos 1) (pos 0) ≡ cond b z (pos 0)
+share_by true z = times_one z
+share_by false z = *ℤ-zero z
+
+pub weigh_only : (ts : List (ℕ × ℤ)) (k : ℕ) → weigh ts (only k) ≡ coefficient ts k
+weigh_only [] k = refl
+weigh_only (t ∷ ts) k = omega (arith, ints, share_by (eqb t.0 k) t.1, weigh_only ts k)
+
+pub weigh_split : (ts : List (ℕ × ℤ)) (e : ℕ) (v : ℕ → ℤ) → weigh ts v ≡ (coefficient ts e *ℤ v e) +ℤ weigh ts (without e v)
+weigh_split ts e v = split_at ts e v ∙ ap (λ z. (z *ℤ v e) +ℤ weigh ts (without e v)) (weigh_only ts e)
 
 pub weigh_scale : (g : ℤ) (ts : List (ℕ × ℤ)) (v : ℕ → ℤ) → weigh (scale g ts) v ≡ weigh ts v *ℤ g
 weigh_scale g [] v = omega (arith, ints)
@@ -109,26 +117,26 @@ term_within bound low high (s ∷ ts) (suc i) t h e all =
 pub coefficient_below : (bound low high : ℕ) (ts : List (ℕ × ℤ)) (k : ℕ) → AreTerms bound low high ts → k < low → coefficient ts k ≡ pos 0
 coefficient_below bound low high [] k all h = refl
 coefficient_below bound low high (t ∷ ts) k all h =
-    let e : t.1 *ℤ only k t.0 ≡ pos 0 = ap (λ z. t.1 *ℤ z) (only_above k t.0 (omega (arith, all.0))) ∙ *ℤ-zero t.1 in
+    let e : cond (eqb t.0 k) t.1 (pos 0) ≡ pos 0 = share_after t.0 k t.1 (omega (arith, all.0)) in
     omega (arith, ints, e, coefficient_below bound (t.0 + 1) high ts k all.3 (omega (arith, all.0)))
 
 pub coefficient_at : (bound low high : ℕ) (ts : List (ℕ × ℤ)) (i : ℕ) (t : ℕ × ℤ) → i < length ts → t ≡ get_or ts i (0, pos 0) → AreTerms bound low high ts → coefficient ts t.0 ≡ t.1
 coefficient_at bound low high [] i t h e all = absurd (omega arith)
 coefficient_at bound low high (s ∷ ts) zero t h e all =
     let r = coefficient_below bound (s.0 + 1) high ts s.0 all.3 (omega arith) in
-    let one : s.1 *ℤ only s.0 s.0 ≡ s.1 = ap (λ z. s.1 *ℤ z) (only_same s.0) ∙ times_one s.1 in
+    let one : cond (eqb s.0 s.0) s.1 (pos 0) ≡ s.1 = share_at s.0 s.1 in
     let both : coefficient (s ∷ ts) s.0 ≡ s.1 = omega (arith, ints, r, one) in
     subst (λ (u : ℕ × ℤ). coefficient (s ∷ ts) u.0 ≡ u.1) (sym e) both
 coefficient_at bound low high (s ∷ ts) (suc i) t h e all =
     let at = term_within bound (s.0 + 1) high ts i t (omega arith) e all.3 in
-    let none : s.1 *ℤ only t.0 s.0 ≡ pos 0 = ap (λ z. s.1 *ℤ z) (only_below t.0 s.0 (omega (arith, at.0))) ∙ *ℤ-zero s.1 in
+    let none : cond (eqb s.0 t.0) s.1 (pos 0) ≡ pos 0 = share_before s.0 t.0 s.1 (omega (arith, at.0)) in
     omega (arith, ints, none, coefficient_at bound (s.0 + 1) high ts i t (omega arith) e all.3)
 
-small_by : (b : Bool) (bound low high : ℕ) (t : ℕ × ℤ) (ts : List (ℕ × ℤ)) (e : ℕ) → AreTerms bound low high (t ∷ ts) → eqb t.0 e ≡ b → unsigned_abs (coefficient ts e) < bound → unsigned_abs ((t.1 *ℤ cond b (pos 1) (pos 0)) +ℤ coefficient ts e) < bound
+small_by : (b : Bool) (bound low high : ℕ) (t : ℕ × ℤ) (ts : List (ℕ × ℤ)) (e : ℕ) → AreTerms bound low high (t ∷ ts) → eqb t.0 e ≡ b → unsigned_abs (coefficient ts e) < bound → unsigned_abs (cond b t.1 (pos 0) +ℤ coefficient ts e) < bound
 small_by true bound low high t ts e all h rest =
     let z : coefficient ts e ≡ pos 0 = coefficient_below bound (t.0 + 1) high ts e all.3 (omega (arith, eqb-true t.0 e h)) in
-    rw (z, times_one t.1, +ℤ_idr t.1) all.2
-small_by false bound low high t ts e all h rest = rw (*ℤ-zero t.1, +ℤ_idl (coefficient ts e)) rest
+    rw (z, +ℤ_idr t.1) all.2
+small_by false bound low high t ts e all h rest = rw (+ℤ_idl (coefficient ts e)) rest
 
 pub coefficient_small : (bound low high : ℕ) (ts : List (ℕ × ℤ)) (e : ℕ) → 0 < bound → AreTerms bound low high ts → unsigned_abs (coefficient ts e) < bound
 coefficient_small bound low high [] e some all = some

@@ -10,17 +10,18 @@ use Rattle.std.proofs.Math.IntN.{zero-*ℤ}
 use Rattle.std.proofs.Math.Nat.{eq-one_of_dvd-one}
 use Rattle.std.specs.Prelude.{unsigned_abs, nat_lt, ◌≢◌}
 use Rattle.std.specs.List.{AllByRecursion, enumerate_from, range_with_len}
-use Rattle.lp_base.specs.Ascending.{ascends_by}
+use Rattle.lp_base.specs.Ascending.{ascends_by, number_of}
 use Rattle.lpcc_case.specs.declared.constraint.Constraint.{Constraint}
 use Rattle.lpcc_case.specs.declared.form.Form.{Form}
 use Rattle.lpcc_case.specs.declared.form.Form.TheVariants.{Col, Con, Cost}
 use Rattle.lpcc_case.specs.Instance.{Instance, constraint_at, no_constraint}
-use Rattle.lpcc_case.specs.Cases.{IsCase, IsConstraint, FitsCase, column_of}
+use Rattle.lpcc_case.specs.Cases.{IsCase, IsConstraint, FitsCase}
+use Rattle.lpcc_case.proofs.Members.{constraint_of_case}
 use Rattle.dict.specs.Terms.{weigh, only, AreTerms}
 use Rattle.dict.specs.Equations.{Equation, equation, Holds, IsRow, IsReduced}
 use Rattle.dict.specs.Dictionaries.{IsDictionary, AreRows, row_at, form_at, AllHold}
 use Rattle.dict.specs.Forms.{IsDictionaryOf, AreIndependent, affine_of, affine_at, forms_of, nonzero, constraint_row, cost_row, start_of}
-use Rattle.dict.proofs.SparseSums.{weigh_same_below, terms_below}
+use Rattle.dict.proofs.SparseSums.{weigh_only, weigh_same_below, terms_below}
 use Rattle.dict.proofs.Enters.{neg_times}
 use Rattle.dict.proofs.Pivots.{by_lt}
 
@@ -32,14 +33,14 @@ some_size : (z : ℤ) → (z ≡ pos 0 → ⊥) → 0 < unsigned_abs z
 some_size z h = by_lt 0 (unsigned_abs z) (λ lt. lt) (λ ge. absurd (h (omega (arith, ints, ge))))
 
 -- the terms of a constraint
-terms_ascend : (n : ℕ) (t : ℕ × ℤ) (ts : List (ℕ × ℤ)) → ascends_by column_of (t ∷ ts) ≡ true → AllByRecursion (λ u. u.0 < n) (t ∷ ts) → AllByRecursion (λ u. FitsCase u.1 × (u.1 ≢ pos 0)) (t ∷ ts) → AreTerms (2 ^ 63) t.0 n (t ∷ ts)
+terms_ascend : (n : ℕ) (t : ℕ × ℤ) (ts : List (ℕ × ℤ)) → ascends_by number_of (t ∷ ts) ≡ true → AllByRecursion (λ u. u.0 < n) (t ∷ ts) → AllByRecursion (λ u. FitsCase u.1 × (u.1 ≢ pos 0)) (t ∷ ts) → AreTerms (2 ^ 63) t.0 n (t ∷ ts)
 terms_ascend n t [] ascends below sizes = (omega arith, some_size t.1 sizes.0.1, omega (arith, sizes.0.0), omega (arith, below.0))
 terms_ascend n t (u ∷ ts) ascends below sizes =
-    let less : t.0 < u.0 = ltb-true t.0 u.0 ((and_parts (nat_lt t.0 u.0) (ascends_by column_of (u ∷ ts)) ascends).0) in
-    let rest = terms_ascend n u ts ((and_parts (nat_lt t.0 u.0) (ascends_by column_of (u ∷ ts)) ascends).1) below.1 sizes.1 in
+    let less : t.0 < u.0 = ltb-true t.0 u.0 ((and_parts (nat_lt t.0 u.0) (ascends_by number_of (u ∷ ts)) ascends).0) in
+    let rest = terms_ascend n u ts ((and_parts (nat_lt t.0 u.0) (ascends_by number_of (u ∷ ts)) ascends).1) below.1 sizes.1 in
     (omega arith, some_size t.1 sizes.0.1, omega (arith, sizes.0.0), (omega (arith, less), rest.1, rest.2, rest.3))
 
-terms_all : (n : ℕ) (ts : List (ℕ × ℤ)) → ascends_by column_of ts ≡ true → AllByRecursion (λ u. u.0 < n) ts → AllByRecursion (λ u. FitsCase u.1 × (u.1 ≢ pos 0)) ts → AreTerms (2 ^ 63) 0 n ts
+terms_all : (n : ℕ) (ts : List (ℕ × ℤ)) → ascends_by number_of ts ≡ true → AllByRecursion (λ u. u.0 < n) ts → AllByRecursion (λ u. FitsCase u.1 × (u.1 ≢ pos 0)) ts → AreTerms (2 ^ 63) 0 n ts
 terms_all n [] ascends below sizes = omega arith
 terms_all n (t ∷ ts) ascends below sizes =
     let r = terms_ascend n t ts ascends below sizes in
@@ -104,9 +105,6 @@ rows_size a = length-append (map constraint_row a.constraints) (cost_row a ∷ [
 basic_size : (m : ℕ) → length (map Con (range_with_len 0 m) ++ Cost ∷ []) ≡ m + 1
 basic_size m = length-append (map Con (range_with_len 0 m)) (Cost ∷ []) ∙ ap (λ n. n + 1) (length-map-range_with_len Con 0 m)
 
-constraint_of : (a : Instance) (i : ℕ) → IsCase a → i < length a.constraints → IsConstraint a.columns (constraint_at a i)
-constraint_of a i is h = All-get_or (IsConstraint a.columns) a.constraints i no_constraint h is.constraints
-
 narrow_neg : (z : ℤ) → FitsCase z → unsigned_abs (neg_ℤ z) < 2 ^ 63
 narrow_neg z h = omega (arith, ints, h)
 
@@ -128,7 +126,7 @@ start_rows a is i h =
     by_lt i (length a.constraints)
     (λ lt.
     let e = constraint_at_row a i lt in
-    let c = constraint_of a i is lt in
+    let c = constraint_of_case a i is lt in
     subst (λ (q : Equation). IsRow (2 ^ 63) a.columns q × IsReduced q) (sym e) (constraint_is_row a.columns (constraint_at a i) c, over_one (neg_ℤ (constraint_at a i).rhs) (constraint_at a i).terms))
     (λ ge.
     let e = cost_at_row a i (omega (arith, ge, h, rows_size a)) in
@@ -165,7 +163,7 @@ start_holds a x one is i h =
     (λ lt.
     let f : affine_of a (form_at (start_of a).basic i) x one ≡ affine_of a (Con i) x one = ap (λ (g : Form). affine_of a g x one) (constraint_is_basic (length a.constraints) i lt) in
     subst (λ (q : Equation). Holds q (affine_of a (form_at (start_of a).basic i) x one) v one) (sym (constraint_at_row a i lt))
-    (subst (λ (z : ℤ). Holds (constraint_row (constraint_at a i)) z v one) (sym f) (constraint_holds a.columns (constraint_at a i) x v one (constraint_of a i is lt) same)))
+    (subst (λ (z : ℤ). Holds (constraint_row (constraint_at a i)) z v one) (sym f) (constraint_holds a.columns (constraint_at a i) x v one (constraint_of_case a i is lt) same)))
     (λ ge.
     let last : length a.constraints ≡ i = omega (arith, ge, h, rows_size a) in
     let f : affine_of a (form_at (start_of a).basic i) x one ≡ affine_of a Cost x one = ap (λ (g : Form). affine_of a g x one) (cost_is_basic (length a.constraints) i last) in
@@ -176,7 +174,7 @@ start_independent : (a : Instance) → AreIndependent (length (start_of a).nonba
 start_independent a c below sum j =
     let n : length (start_of a).nonbasic ≡ a.columns = length-map-range_with_len Col 0 a.columns in
     let within : AllByRecursion (λ t. t.0 < a.columns) c = subst (λ (m : ℕ). AllByRecursion (λ t. t.0 < m) c) n below in
-    sym (weigh_same_below a.columns c (λ k. affine_at a (start_of a).nonbasic k (only j) (pos 0)) (only j) within (λ k h. ap (λ (f : Form). affine_of a f (only j) (pos 0)) (column_at_place a.columns k h))) ∙ sum (only j)
+    sym (weigh_only c j) ∙ sym (weigh_same_below a.columns c (λ k. affine_at a (start_of a).nonbasic k (only j) (pos 0)) (only j) within (λ k h. ap (λ (f : Form). affine_of a f (only j) (pos 0)) (column_at_place a.columns k h))) ∙ sum (only j)
 
 pub start_of_case : (a : Instance) → IsCase a → IsDictionaryOf a (start_of a)
 start_of_case a is = record {

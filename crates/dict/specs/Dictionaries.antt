@@ -1,9 +1,10 @@
 -- Dictionaries: a row for each basic form, over the nonbasic forms.
-use Rattle.std.specs.Prelude.{◌≡◌, ◌≢◌, ◌≤◌, ◌<◌, ◌^◌, ℕ, ℤ, pos, List, [], ⊤, length, slice_index_or, slice_set}
+use Rattle.std.specs.Prelude.{◌≡◌, ◌≢◌, ◌+◌, ◌≤◌, ◌<◌, ◌^◌, ℕ, ℤ, pos, List, [], ⊤, length, slice_index_or, slice_set}
 use Rattle.lp_base.specs.Numbers.{IsNarrow}
+use Rattle.lpcc_case.specs.declared.limits.TheConstants.{MOST_COLUMNS, MOST_CONSTRAINTS}
 use Rattle.lpcc_case.specs.declared.form.Form.{Form}
 use Rattle.lpcc_case.specs.declared.form.Form.TheVariants.{Cost}
-use Rattle.dict.specs.Terms.{coefficient}
+use Rattle.lpcc_case.specs.Points.{coefficient}
 use Rattle.dict.specs.Equations.{Equation, equation, Holds, IsRow, IsReduced, number_at}
 use Rattle.dict.specs.declared.fault.Wide.{Wide as Place}
 use Rattle.dict.specs.declared.fault.PivotFault.{PivotFault}
@@ -29,8 +30,8 @@ AreRows places rows = (i : ℕ) → i < length rows → IsRow (2 ^ 63) places (r
 
 -- what every dictionary of the code keeps
 pub record IsDictionary (places : ℕ) (d : Dictionary) : Type 0 where
-  pub few_columns : places ≤ 1000
-  pub few_rows : length d.rows ≤ 2001
+  pub few_columns : places ≤ MOST_COLUMNS
+  pub few_rows : length d.rows ≤ MOST_CONSTRAINTS + 1
   pub nonbasic : length d.nonbasic ≡ places
   pub basic : length d.basic ≡ length d.rows
   pub rows : AreRows places d.rows

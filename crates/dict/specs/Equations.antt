@@ -2,7 +2,8 @@
 use Rattle.std.specs.Prelude.{◌≡◌, ◌<◌, ℕ, ◌+◌, ℤ, pos, ◌+ℤ◌, ◌*ℤ◌, ◌<ℤ◌, List, [], ◌∷◌, unsigned_abs, nat_eq, if◌then◌else◌}
 use Rattle.std.specs.List.{AllByRecursion}
 use Prim.Native.Nat.{◌∣◌}
-use Rattle.dict.specs.Terms.{weigh, coefficient, AreTerms}
+use Rattle.lpcc_case.specs.Points.{coefficient}
+use Rattle.dict.specs.Terms.{weigh, AreTerms}
 
 -- den times a form is the sum of the entries times the nonbasic forms, and the constant
 pub record Equation : Type 0 where

@@ -6,7 +6,8 @@ use Rattle.lpcc_case.specs.declared.constraint.Constraint.{Constraint}
 use Rattle.lpcc_case.specs.declared.form.Form.{Form}
 use Rattle.lpcc_case.specs.declared.form.Form.TheVariants.{Col, Con, Cost}
 use Rattle.lpcc_case.specs.Instance.{Instance, constraint_at}
-use Rattle.dict.specs.Terms.{weigh, coefficient}
+use Rattle.lpcc_case.specs.Points.{coefficient}
+use Rattle.dict.specs.Terms.{weigh}
 use Rattle.dict.specs.Equations.{Equation, equation, Holds, IsRow, Divides, number_at}
 use Rattle.dict.specs.Dictionaries.{Dictionary, row_at, form_at, entry_at, AllHold, basic_after, nonbasic_after}
 

@@ -10,10 +10,6 @@ weigh ts v = sum_over (λ t. t.1 *ℤ v t.0) ts
 abbrev pub only : ℕ → ℕ → ℤ
 only k j = if nat_eq j k then pos 1 else pos 0
 
--- the number at a place, 0 where no term names it
-abbrev pub coefficient : List (ℕ × ℤ) → ℕ → ℤ
-coefficient ts k = weigh ts (only k)
-
 -- worth 0 at one place, and as before at every other
 abbrev pub without : ℕ → (ℕ → ℤ) → ℕ → ℤ
 without e v j = if nat_eq j e then pos 0 else v j

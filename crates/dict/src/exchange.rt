@@ -1,7 +1,8 @@
 //! What an exchange of the form of a row with the form at a place makes of the rows.
 ghost use Rattle.std.specs.Prelude.{◌≡◌, ◌≢◌, ◌<◌, ℕ, ℤ, ◌+◌, ◌^◌, ◌+ℤ◌, ◌*ℤ◌, ◌<ℤ◌, pos, nat_eq, not, if◌then◌else◌, unsigned_abs, IfOk, IfErr, OnOk};
 ghost use Rattle.lp_base.specs.Numbers.{IsNarrow};
-ghost use Rattle.dict.specs.Terms.{weigh, without, coefficient, AreTerms};
+ghost use Rattle.lpcc_case.specs.Points.{coefficient};
+ghost use Rattle.dict.specs.Terms.{weigh, without, AreTerms};
 ghost use Rattle.dict.specs.Equations.{IsRow, IsReduced};
 ghost use Rattle.dict.specs.Exchanges.{Enters, Carries, IsNext, IsWideNext, turn, entered};
 

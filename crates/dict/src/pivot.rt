@@ -1,7 +1,7 @@
 //! The rows of a dictionary after a pivot: all of them are made before the first is written.
 ghost use Rattle.std.specs.Prelude.{◌≡◌, ◌≢◌, ◌<◌, ℕ, ◌^◌, List, length, IfOk, IfErr, OnOk, OnErr, pos};
 ghost use Rattle.std.specs.List.{AllByRecursion};
-ghost use Rattle.dict.specs.Terms.{coefficient};
+ghost use Rattle.lpcc_case.specs.Points.{coefficient};
 ghost use Rattle.dict.specs.Equations.{IsRow, IsReduced};
 ghost use Rattle.dict.specs.Exchanges.{IsNext, IsWideNext};
 ghost use Rattle.dict.specs.Dictionaries.{row_at, AreRows};

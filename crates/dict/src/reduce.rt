@@ -1,7 +1,8 @@
 //! A row divided by the greatest common divisor of its numbers.
 ghost use Rattle.std.specs.Prelude.{◌≡◌, ◌≤◌, ◌<◌, ◌*◌, ◌^◌, ◌++◌, ◌∷◌, [], ◌<ℤ◌, pos, length, unsigned_abs, IfOk, IfErr, OnOk, slice_index_or};
 ghost use Rattle.std.specs.Int.{IsGcd};
-ghost use Rattle.dict.specs.Terms.{coefficient, AreTerms};
+ghost use Rattle.lpcc_case.specs.Points.{coefficient};
+ghost use Rattle.dict.specs.Terms.{AreTerms};
 ghost use Rattle.dict.specs.Equations.{equation, DividesEach, IsCommon, IsReducedOf, IsRow, scale};
 ghost use Rattle.dict.specs.Exchanges.{IsWideAt};
 

@@ -1,7 +1,8 @@
 //! Rows, each a sparse list of entries over a denominator of its own.
 ghost use Rattle.std.specs.Prelude.{◌≡◌, ◌<◌, ◌^◌, pos, length, slice_index_or, unsigned_abs};
 ghost use Rattle.lp_base.specs.Numbers.{IsNarrow};
-ghost use Rattle.dict.specs.Terms.{coefficient, AreTerms};
+ghost use Rattle.lpcc_case.specs.Points.{coefficient};
+ghost use Rattle.dict.specs.Terms.{AreTerms};
 ghost use Rattle.dict.specs.Equations.{equation};
 
 use std::marker::Model;

@@ -7,7 +7,7 @@ ghost use Rattle.dict.specs.Forms.{constraint_row, cost_row, nonzero, start_of, 
 
 use crate::dictionary::Dict;
 use crate::row::Row;
-use lpcc_case::{Case, Constraint, Form};
+use lpcc_case::{Case, Constraint, Form, MOST_COLUMNS};
 use std::alloc::{AllocError, Global};
 
 fn row_of_constraint(alloc: Global, constraint: &Constraint) -> Result<Row, AllocError>
@@ -37,7 +37,7 @@ fn cost_at(cost: &[i64], j: usize) -> i64
 }
 
 fn row_of_cost(alloc: Global, cost: &[i64]) -> Result<Row, AllocError>
-    requires { length cost.now ≤ 1000 }
+    requires { length cost.now ≤ MOST_COLUMNS }
     ensures { IfOk result (λ made. made ≡ equation (pos 1) (pos 0) (nonzero (enumerate_from 0 cost.now))) }
 {
     let mut entries: Vec<(u32, i64)> = Vec::new(alloc);

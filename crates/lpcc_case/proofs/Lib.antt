@@ -4,3 +4,4 @@ pub mod PieceLaws
 pub mod VerdictLaws
 pub mod Products
 pub mod Members
+pub mod Shares

@@ -2,7 +2,7 @@ use Rattle.std.proofs.Common.{ℕ, ℤ, pos, List, ◌≡◌, ◌∙◌, ◌^◌
 use mathlib.Core.Bool.{not}
 use mir.Syntax.{w64}
 use lib.Signed.{lt_z}
-use Rattle.dict.specs.Terms.{coefficient}
+use Rattle.lpcc_case.specs.Points.{coefficient}
 use Rattle.dict.specs.Equations.{Equation, IsRow, IsReduced}
 use Rattle.dict.specs.Exchanges.{Enters, turn, entered}
 use Rattle.dict.proofs.Machine.{read_again}

@@ -1,7 +1,8 @@
 use Rattle.std.proofs.Common.{ℕ, ℤ, ◌≡◌, ◌∙◌, ◌+ℤ◌, ◌*ℤ◌, refl, sym, ap, subst, to_z, of_z}
 use mir.Syntax.{w64, w128}
 use Rattle.lp_base.proofs.Machine.{again}
-use Rattle.dict.specs.Terms.{weigh, without, coefficient}
+use Rattle.lpcc_case.specs.Points.{coefficient}
+use Rattle.dict.specs.Terms.{weigh, without}
 use Rattle.dict.specs.Equations.{Equation, equation}
 use Rattle.dict.specs.Exchanges.{Carries}
 use Rattle.dict.proofs.Machine.{read_again}

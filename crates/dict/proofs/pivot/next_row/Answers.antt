@@ -1,6 +1,6 @@
 use Rattle.std.proofs.Common.{ℕ, ℤ, List, ◌∙◌, ap, sym, to_z}
 use mir.Syntax.{w64}
-use Rattle.dict.specs.Terms.{coefficient}
+use Rattle.lpcc_case.specs.Points.{coefficient}
 use Rattle.dict.proofs.Machine.{read_again}
 use Rattle.dict.proofs.Exchanges.{stays}
 use Rattle.dict.proofs.pivot.next_row.Goals as goal

@@ -3,7 +3,8 @@ use Rattle.std.specs.Prelude.{unsigned_abs}
 use Rattle.std.proofs.lemmas.Int.{to_z-of_z}
 use mir.Syntax.{w128}
 use Rattle.lp_base.proofs.Machine.{again}
-use Rattle.dict.specs.Terms.{coefficient, AreTerms}
+use Rattle.lpcc_case.specs.Points.{coefficient}
+use Rattle.dict.specs.Terms.{AreTerms}
 use Rattle.dict.specs.Equations.{Equation, equation, scale, IsCommon}
 use Rattle.dict.proofs.Machine.{read_again}
 use Rattle.dict.proofs.Commons.{equation_again}

@@ -2,7 +2,7 @@ use Rattle.std.proofs.Common.{ℕ, ℤ, sym, subst, arith, ◌∙◌, ap, ◌<�
 use Rattle.std.specs.Prelude.{unsigned_abs}
 use Rattle.std.proofs.lemmas.Int.{to_z-of_z}
 use mir.Syntax.{w64}
-use Rattle.dict.specs.Terms.{coefficient}
+use Rattle.lpcc_case.specs.Points.{coefficient}
 use Rattle.dict.proofs.SparseSums.{coefficient_at, coefficient_small}
 use Rattle.dict.proofs.Commons.{look_past}
 use Rattle.dict.proofs.row.number_in.Goals as goal

@@ -1,5 +1,5 @@
 use Rattle.std.proofs.Common.{◌≡◌, drop}
-use Rattle.dict.specs.Terms.{coefficient}
+use Rattle.lpcc_case.specs.Points.{coefficient}
 use Rattle.dict.proofs.row.number_in.Given as goal
 
 abbrev pub invariant-loop-i : goal.invariant-loop-i

@@ -1,6 +1,6 @@
 use Rattle.std.proofs.Common.{ℕ, ◌≡◌, ◌<◌, ◌∙◌, pos, refl, sym, subst, arith, length, set, OnOk, IfErr}
 use Rattle.std.proofs.lemmas.List.{length-set}
-use Rattle.dict.specs.Terms.{coefficient}
+use Rattle.lpcc_case.specs.Points.{coefficient}
 use Rattle.dict.specs.Dictionaries.{Dictionary, IsDictionary, IsWideRow, AllHold, AreRows, row_at, form_at}
 use Rattle.dict.specs.Pivots.{IsAfter, IsWidePlace}
 use Rattle.dict.specs.Forms.{IsDictionaryOf}
