@@ -5,10 +5,9 @@ use Rattle.std.proofs.Math.IntN.{+ℤ_idl, +ℤ_idr, zero-*ℤ, *ℤ-zero}
 use Rattle.lp_base.specs.Sums.{sum_over, dot}
 use Rattle.lp_base.proofs.Ring.{mul_add_right, mul_add_left, mul_assoc}
 use Rattle.lpcc_case.specs.Instance.{Instance, constraint_at}
-use Rattle.lpcc_case.specs.Points.{left_side}
-use Rattle.lpcc_case.specs.Points.{coefficient}
+use Rattle.lpcc_case.specs.Points.{coefficient, left_side}
+use Rattle.lpcc_case.proofs.Shares.{share, share_at, share_before, share_after}
 use Rattle.cuts.specs.Cuts.{column_sum}
-use Rattle.cuts.proofs.Columns.{share, share_at, share_before, share_after}
 
 -- a number for each column, times x, from column i on
 abbrev pub across : (ℕ → ℤ) → List ℤ → ℕ → ℤ
