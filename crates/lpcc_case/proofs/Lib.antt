@@ -5,3 +5,4 @@ pub mod VerdictLaws
 pub mod Products
 pub mod Members
 pub mod Shares
+pub mod Meanings

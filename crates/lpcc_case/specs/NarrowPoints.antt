@@ -12,8 +12,8 @@ pub record AreNumbersOf (a : Instance) (numbers : List ℤ) : Type 0 where
   pub narrow : All IsNarrow numbers
 
 -- at these numbers the left side of the constraint of this number is d times its right side
-abbrev pub IsEqual : Instance → List ℤ → ℤ → ℕ → Type 0
-IsEqual a numbers d k = points.left_side (constraint_at a k).terms numbers ≡ ((constraint_at a k).rhs *ℤ d)
+abbrev pub HoldsWithEquality : Instance → List ℤ → ℤ → ℕ → Type 0
+HoldsWithEquality a numbers d k = points.left_side (constraint_at a k).terms numbers ≡ ((constraint_at a k).rhs *ℤ d)
 
 -- narrow numbers for the columns of the instance, and a denominator of at least 1
 pub record IsPointFor (a : Instance) (q : Point) : Type 0 where

@@ -3,7 +3,7 @@ ghost use Rattle.std.specs.Prelude.{◌<◌, ◌≤◌, ◌↔◌, ◌⊎◌, �
 ghost use Rattle.lp_base.specs.Numbers.{IsNarrow};
 ghost use Rattle.lpcc_case.specs.Cases.{IsConstraint};
 ghost use Rattle.lpcc_case.specs.Instance.{chosen_number};
-ghost use Rattle.lpcc_case.specs.NarrowPoints.{AreNumbersOf, IsEqual, IsPointFor, Means};
+ghost use Rattle.lpcc_case.specs.NarrowPoints.{AreNumbersOf, HoldsWithEquality, IsPointFor, Means};
 ghost use Rattle.lpcc_case.specs.Pieces.{NamesPairs};
 ghost use Rattle.lpcc_case.specs.Points as points;
 ghost use Rattle.lpcc_case.specs.Points.{Relates, MeetsAll, IsTightAt, IsComplementary, Recedes, left_side};
@@ -33,7 +33,7 @@ fn is_equal(case: &Case, number: u32, numbers: &[i64], d: i64) -> bool
     requires named { number < length case.now.constraints }
     requires numbers { AreNumbersOf case.now numbers.now }
     requires factor { IsNarrow d }
-    ensures { IsTrue result ↔ IsEqual case.now numbers.now d number }
+    ensures { IsTrue result ↔ HoldsWithEquality case.now numbers.now d number }
 {
     let constraint = &case.constraints()[number as usize];
     left_side(constraint, numbers) == product(constraint.rhs, d)
@@ -58,7 +58,7 @@ fn all_equal(case: &Case, choices: &[Choice], numbers: &[i64], d: i64) -> bool
     requires numbers { AreNumbersOf case.now numbers.now }
     requires factor { IsNarrow d }
     requires named { NamesPairs case.now choices.now }
-    ensures { IsTrue result ↔ All (λ c. IsEqual case.now numbers.now d (chosen_number case.now c)) choices.now }
+    ensures { IsTrue result ↔ All (λ c. HoldsWithEquality case.now numbers.now d (chosen_number case.now c)) choices.now }
 {
     for choice in choices {
         if !is_equal(case, case.chosen_number(*choice), numbers, d) {
@@ -74,7 +74,7 @@ fn one_equal(case: &Case, pair: (u32, u32), numbers: &[i64], d: i64) -> bool
     requires second { pair.1 < length case.now.constraints }
     requires numbers { AreNumbersOf case.now numbers.now }
     requires factor { IsNarrow d }
-    ensures { IsTrue result ↔ (IsEqual case.now numbers.now d pair.0 ⊎ IsEqual case.now numbers.now d pair.1) }
+    ensures { IsTrue result ↔ (HoldsWithEquality case.now numbers.now d pair.0 ⊎ HoldsWithEquality case.now numbers.now d pair.1) }
 {
     is_equal(case, pair.0, numbers, d) || is_equal(case, pair.1, numbers, d)
 }
@@ -83,7 +83,7 @@ fn one_equal(case: &Case, pair: (u32, u32), numbers: &[i64], d: i64) -> bool
 fn one_equal_in_each_pair(case: &Case, numbers: &[i64], d: i64) -> bool
     requires numbers { AreNumbersOf case.now numbers.now }
     requires factor { IsNarrow d }
-    ensures { IsTrue result ↔ All (λ pair. IsEqual case.now numbers.now d pair.0 ⊎ IsEqual case.now numbers.now d pair.1) case.now.pairs }
+    ensures { IsTrue result ↔ All (λ pair. HoldsWithEquality case.now numbers.now d pair.0 ⊎ HoldsWithEquality case.now numbers.now d pair.1) case.now.pairs }
 {
     for pair in case.pairs() {
         if !one_equal(case, *pair, numbers, d) {

@@ -8,7 +8,7 @@ ghost use Rattle.lpcc_case.specs.Pieces.{IsPiece, LiesIn};
 ghost use Rattle.lpcc_case.specs.Verdicts.{HasValue, IsTrueOf, SameVerdict};
 ghost use Rattle.lpcc_case.specs.declared.verdict.Verdict.{Verdict as Claim};
 ghost use Rattle.lpcc_case.specs.declared.point.Point.{Point as NarrowPoint};
-ghost use Rattle.lpcc_case.specs.NarrowPoints.{IsPointOf, Means, IsBelow};
+ghost use Rattle.lpcc_case.specs.NarrowPoints.{IsPointFor, IsPointOf, Means, IsBelow};
 ghost use Rattle.lpcc_case.specs.Values.{value_at};
 ghost use Rattle.lp_nums.specs.Fractions.{SameValue};
 
@@ -39,6 +39,11 @@ pub fn feasible_exactly_in_a_piece()
 /// two optimal ones have the same value.
 pub fn true_verdicts_are_the_same()
     ensures { (a : Instance) (v w : Claim) → pos 1 ≤ℤ a.scale → IsTrueOf a v → IsTrueOf a w → SameVerdict v w }
+{}
+
+/// Each point for a case means a point.
+pub fn point_for_a_case_means_one()
+    ensures { (a : Instance) (q : NarrowPoint) → IsPointFor a q → (p : Point a.columns) × Means q p }
 {}
 
 /// A point of a case is below another exactly where what it means is lower.

@@ -21,8 +21,8 @@ pub use fits::is_of;
 pub use form::Form;
 pub use laws::{
     feasible_exactly_in_a_piece, lower_is_irreflexive, lower_is_transitive,
-    multiples_meet_the_same, point_is_below_where_lower, true_verdicts_are_the_same,
-    value_is_that_of_the_point,
+    multiples_meet_the_same, point_for_a_case_means_one, point_is_below_where_lower,
+    true_verdicts_are_the_same, value_is_that_of_the_point,
 };
 pub use limits::{MOST_COLUMNS, MOST_CONSTRAINTS, MOST_PAIRS};
 pub use point::{Point, Ray};

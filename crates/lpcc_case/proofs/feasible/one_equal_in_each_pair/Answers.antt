@@ -3,7 +3,7 @@ use mir.Syntax.{w64}
 use Rattle.std.proofs.lemmas.Bool.{false≢true}
 use Rattle.std.proofs.lemmas.List.Elements.{All-more}
 use Rattle.lp_base.proofs.Machine.{narrow_again}
-use Rattle.lpcc_case.specs.NarrowPoints.{IsEqual}
+use Rattle.lpcc_case.specs.NarrowPoints.{HoldsWithEquality}
 use Rattle.lpcc_case.proofs.Members.{all_hold, one_fails, members_within}
 use Rattle.lpcc_case.proofs.feasible.one_equal_in_each_pair.Goals as goal
 
@@ -17,15 +17,15 @@ one_equal-requires-clause-second c =
 
 pub returns-then-not-one_equal : goal.returns-then-not-one_equal
 returns-then-not-one_equal c =
-    let P : ℤ → ℕ × ℕ → Type 0 = λ z pair. IsEqual c.args.case.now c.args.numbers.now z pair.0 ⊎ IsEqual c.args.case.now c.args.numbers.now z pair.1 in
+    let P : ℤ → ℕ × ℕ → Type 0 = λ z pair. HoldsWithEquality c.args.case.now c.args.numbers.now z pair.0 ⊎ HoldsWithEquality c.args.case.now c.args.numbers.now z pair.1 in
     (λ no. absurd (false≢true no), λ all. absurd (one_fails P (to_z w64 (of_z w64 c.args.d)) c.args.d c.args.case.now.pairs c.pairs-pair-items.result.now c.loop-pair.pair-index (0, 0) (narrow_again c.args.d c.requires.factor) c.pairs-pair-items.ensures.list c.loop-pair-test.true (λ here. false≢true (sym c.if-not-one_equal.true ∙ c.one_equal.ensures.1 here)) all))
 
 pub loop-pair-preserved : goal.loop-pair-preserved
 loop-pair-preserved c =
-    let P : ℤ → ℕ × ℕ → Type 0 = λ z pair. IsEqual c.args.case.now c.args.numbers.now z pair.0 ⊎ IsEqual c.args.case.now c.args.numbers.now z pair.1 in
+    let P : ℤ → ℕ × ℕ → Type 0 = λ z pair. HoldsWithEquality c.args.case.now c.args.numbers.now z pair.0 ⊎ HoldsWithEquality c.args.case.now c.args.numbers.now z pair.1 in
     All-more (P (to_z w64 (of_z w64 c.args.d))) c.args.case.now.pairs c.loop-pair.pair-index (0, 0) (rw c.pairs-pair-items.ensures.list at c.loop-pair-test.true) c.loop-pair.invariant (rw c.pairs-pair-items.ensures.list at (c.one_equal.ensures.0 c.if-not-one_equal.false))
 
 pub returns : goal.returns
 returns c =
-    let P : ℤ → ℕ × ℕ → Type 0 = λ z pair. IsEqual c.args.case.now c.args.numbers.now z pair.0 ⊎ IsEqual c.args.case.now c.args.numbers.now z pair.1 in
+    let P : ℤ → ℕ × ℕ → Type 0 = λ z pair. HoldsWithEquality c.args.case.now c.args.numbers.now z pair.0 ⊎ HoldsWithEquality c.args.case.now c.args.numbers.now z pair.1 in
     (λ _. all_hold P _ c.args.d c.args.case.now.pairs c.pairs-pair-items.result.now c.loop-pair.pair-index (narrow_again c.args.d c.requires.factor) c.pairs-pair-items.ensures.list c.loop-pair-test.false c.loop-pair.invariant, λ _. refl)
