@@ -1,3 +1,5 @@
-pub mod Forms
-pub mod Endings
-pub mod Refutation
+pub mod Stable
+pub mod PointLines
+pub mod Lines
+pub mod Following
+pub mod Truth

@@ -3,7 +3,7 @@
 
 mod accept;
 mod laws;
-mod line;
 
-pub use accept::{CheckFault, Verdict, check};
-pub use laws::{accepted_means_infeasible, passed_lines_bar_only_empty_pieces};
+pub use accept::{CheckFault, NoWhy, check};
+pub use laws::{accepted_verdicts_are_true, passed_lines_bar_nothing_lower};
+pub use lpcc_case::Verdict;
