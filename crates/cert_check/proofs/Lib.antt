@@ -3,3 +3,4 @@ pub mod PointLines
 pub mod Lines
 pub mod Following
 pub mod Truth
+pub mod Single

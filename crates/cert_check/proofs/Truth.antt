@@ -12,13 +12,14 @@ use Rattle.lpcc_case.specs.declared.verdict.Verdict.TheVariants as verdict
 use Rattle.lpcc_case.specs.Instance.{Instance, chosen}
 use Rattle.lpcc_case.specs.Points.{Point, IsComplementary, IsTightAt, IsFeasible, IsLower, Recedes, Relates, cost_at, left_side, coefficient}
 use Rattle.lpcc_case.specs.Verdicts.{IsTrueOf, IsOptimal, IsInfeasible, IsUnbounded, HasValue}
+use Rattle.lpcc_case.specs.Values.{IsValue}
 use Rattle.cert_text.specs.declared.cert.Cert.{Cert}
 use Rattle.cert_text.specs.declared.cert.Cert.TheVariants.{Optimal, Infeasible, Unbounded}
 use Rattle.cert_text.specs.declared.cert.CertPoint.{CertPoint}
 use Rattle.cert_text.specs.declared.cert.CertLine.{CertLine}
 use Rattle.cert_check.specs.declared.accept.NoWhy.{NoWhy}
 use Rattle.cert_check.specs.declared.accept.NoWhy.TheVariants.{NotComplementary, ValueFails, RayFails}
-use Rattle.cert_check.specs.Acceptance.{Accepts, IsValue, HasCost, IsWholePiece, NoGoodsFail, RayPasses, numbers_of}
+use Rattle.cert_check.specs.Acceptance.{Accepts, HasCost, IsWholePiece, NoGoodsFail, RayPasses, numbers_of}
 use Rattle.cert_check.specs.Barring.{value_at}
 use Rattle.cert_check.proofs.Stable.{Holds, same_stable, lt_stable, relates_stable, all_stable, complementary_stable, tight_stable, numbers_stable}
 use Rattle.cert_check.proofs.PointLines.{PointLinePasses, point_given, abs_of_positive}

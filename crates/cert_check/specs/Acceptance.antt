@@ -1,12 +1,12 @@
 -- Acceptance of a certificate for an instance: a matter of these two alone. The content lines of the certificate are
 -- counted from 1, the head and the kind being the first two; the first line that fails is named with its reason.
-use Rattle.std.specs.Prelude.{◌≡◌, ◌<◌, ◌+◌, ◌-◌, ◌⊎◌, ℕ, ℤ, pos, ◌+ℤ◌, ◌*ℤ◌, ◌≤ℤ◌, true, List, [], All, Option, Some, None, length, map, slice_get, take}
+use Rattle.std.specs.Prelude.{◌≡◌, ◌<◌, ◌+◌, ◌-◌, ◌⊎◌, ℕ, ℤ, pos, ◌*ℤ◌, ◌≤ℤ◌, true, List, [], All, Option, Some, None, length, map, slice_get, take}
 use Rattle.std.specs.List.{range_with_len}
 use Rattle.lp_base.specs.Sums.{dot}
-use Rattle.lp_nums.specs.Fractions.{Fraction, IsReduced, SameValue}
 use Rattle.nogoods.specs.declared.choice.Choice.{Choice}
 use Rattle.lpcc_case.specs.Instance.{Instance}
 use Rattle.lpcc_case.specs.Points.{Point, MeetsAll, IsComplementary, IsTightAt, Recedes, coefficient}
+use Rattle.lpcc_case.specs.Values.{IsValue}
 use Rattle.lpcc_case.specs.declared.verdict.Verdict.{Verdict}
 use Rattle.lpcc_case.specs.declared.verdict.Verdict.TheVariants as verdict
 use Rattle.cuts.specs.declared.cut.Cut.TheVariants as cut
@@ -96,27 +96,28 @@ NoGoodsFail a value lines first n why =
 
 -- ---- the certificate
 
--- the content line of this number fails, for this reason
-abbrev pub LineFails : Instance → Cert → ℕ → NoWhy → Type 0
-LineFails a (Optimal point z lines) n why =
+abbrev pub OptimalFails : Instance → CertPoint → ℤ → List CertLine → ℕ → NoWhy → Type 0
+OptimalFails a point z lines n why =
     ((n ≡ 3) × PointLineFails a (IsComplementary a) point why)
     ⊎ ((n ≡ 4) × (why ≡ ValueFails) × (HasCost a point z → ⊥))
     ⊎ NoGoodsFail a (Some (z, point.d)) lines 5 n why
-LineFails a (Infeasible lines) n why = NoGoodsFail a None lines 3 n why
-LineFails a (Unbounded piece point ray) n why =
+
+abbrev pub UnboundedFails : Instance → List Choice → CertPoint → List (ℕ × ℤ) → ℕ → NoWhy → Type 0
+UnboundedFails a piece point ray n why =
     ((n ≡ 3) × (why ≡ NotComplementary) × (IsWholePiece a piece → ⊥))
     ⊎ ((n ≡ 4) × PointLineFails a (λ p. IsTightAt a p piece) point why)
     ⊎ ((n ≡ 5) × (why ≡ RayFails) × (RayPasses a piece ray → ⊥))
+
+-- the content line of this number fails, for this reason
+abbrev pub LineFails : Instance → Cert → ℕ → NoWhy → Type 0
+LineFails a (Optimal point z lines) n why = OptimalFails a point z lines n why
+LineFails a (Infeasible lines) n why = NoGoodsFail a None lines 3 n why
+LineFails a (Unbounded piece point ray) n why = UnboundedFails a piece point ray n why
 
 -- the first line that fails
 pub record Refuses (a : Instance) (cert : Cert) (n : ℕ) (why : NoWhy) : Type 0 where
   pub fails : LineFails a cert n why
   pub first : (m : ℕ) (other : NoWhy) → m < n → LineFails a cert m other → ⊥
-
--- the value (z + offset d) / (scale d) in lowest terms
-pub record IsValue (a : Instance) (z d : ℤ) (value : Fraction) : Type 0 where
-  pub lowest : IsReduced value
-  pub same : SameValue value (record { num = z +ℤ (a.offset *ℤ d); den = a.scale *ℤ d })
 
 -- the verdict that the certificate claims
 abbrev pub Claims : Instance → Cert → Verdict → Type 0

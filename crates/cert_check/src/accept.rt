@@ -1,14 +1,18 @@
 //! Acceptance of a certificate for a case.
-ghost use Rattle.std.specs.Prelude.{IfErr, IfOk, ℕ};
+ghost use Rattle.std.specs.Prelude.{◌≡◌, All, IfErr, IfOk, ℕ};
 ghost use Rattle.lpcc_case.specs.Verdicts.{IsTrueOf};
 ghost use Rattle.lpcc_case.specs.declared.verdict.Verdict.{Verdict as Claim};
-ghost use Rattle.cert_text.specs.Certs.{KeepsForm};
+ghost use Rattle.cert_text.specs.Certs.{AreTerms, IsLine, IsPoint, KeepsForm};
 ghost use Rattle.cert_check.specs.declared.accept.NoWhy.{NoWhy as Reason};
-ghost use Rattle.cert_check.specs.Acceptance.{Accepts, Refuses, RefusesAs};
+ghost use Rattle.cert_check.specs.Acceptance.{Accepts, OptimalFails, Refuses, RefusesAs, UnboundedFails};
 ghost use Rattle.cert_check.specs.Answers.{GivesVerdict, GivesRefusal};
+ghost use Rattle.cert_check.specs.Results.{NamesFirst};
 
-use cert_text::Cert;
-use lpcc_case::{Case, Verdict};
+use crate::lines::judge_lines;
+use crate::point_line::{is_whole, met_point, ray_passes};
+use cert_text::{Cert, CertLine, CertPoint};
+use lpcc_case::{Case, Point, Verdict, is_complementary, is_of, is_tight_at, value_of};
+use nogoods::NoGood;
 use std::alloc::{AllocError, Global};
 use thiserror::Error;
 
@@ -56,6 +60,82 @@ impl From<AllocError> for CheckFault {
     }
 }
 
+/// Judges a certificate of an optimum, and gives its point.
+fn judge_optimal(
+    alloc: Global,
+    case: &Case,
+    line: &CertPoint,
+    z: i128,
+    lines: &[CertLine],
+) -> Result<Point, CheckFault>
+    requires point { IsPoint line.now }
+    requires form { All IsLine lines.now }
+    ensures passed { IfOk result (λ point. (n : ℕ) (why : Reason) → OptimalFails case.now line.now z lines.now n why → ⊥) }
+    ensures value { IfOk result (λ point. (point.z ≡ z) × (point.d ≡ line.now.d)) }
+    ensures refused { IfErr result (NamesFirst (OptimalFails case.now line.now z lines.now)) }
+{
+    let Some(point) = met_point(alloc, case, line, z)? else {
+        return Err(CheckFault::No {
+            line: 3,
+            why: NoWhy::PointFails,
+        });
+    };
+    if !is_complementary(case, &point) {
+        return Err(CheckFault::No {
+            line: 3,
+            why: NoWhy::NotComplementary,
+        });
+    }
+    if !is_of(case, &point) {
+        return Err(CheckFault::No {
+            line: 4,
+            why: NoWhy::ValueFails,
+        });
+    }
+    judge_lines(case, Some((z, line.d)), lines, 5)?;
+    Ok(point)
+}
+
+/// Judges a certificate that the cost falls without end.
+fn judge_unbounded(
+    alloc: Global,
+    case: &Case,
+    piece: &NoGood,
+    line: &CertPoint,
+    ray: &[(u32, i64)],
+) -> Result<(), CheckFault>
+    requires point { IsPoint line.now }
+    requires terms { AreTerms ray.now }
+    ensures passed { IfOk result (λ done. (n : ℕ) (why : Reason) → UnboundedFails case.now piece.now line.now ray.now n why → ⊥) }
+    ensures refused { IfErr result (NamesFirst (UnboundedFails case.now piece.now line.now ray.now)) }
+{
+    if !is_whole(case, piece) {
+        return Err(CheckFault::No {
+            line: 3,
+            why: NoWhy::NotComplementary,
+        });
+    }
+    let Some(point) = met_point(alloc, case, line, 0)? else {
+        return Err(CheckFault::No {
+            line: 4,
+            why: NoWhy::PointFails,
+        });
+    };
+    if !is_tight_at(case, piece, &point) {
+        return Err(CheckFault::No {
+            line: 4,
+            why: NoWhy::NotComplementary,
+        });
+    }
+    if !ray_passes(alloc, case, piece, ray)? {
+        return Err(CheckFault::No {
+            line: 5,
+            why: NoWhy::RayFails,
+        });
+    }
+    Ok(())
+}
+
 /// Accepts the certificate for the case with its verdict, or names the first content line that
 /// fails: a matter of these two alone. Each line is judged over the lines before it, in the time
 /// that its own text takes and that of the lines which its hints name.
@@ -70,5 +150,18 @@ pub fn check(alloc: Global, case: &Case, cert: &Cert) -> Result<Verdict, CheckFa
     // An accepted certificate's verdict is true.
     ensures sound { IfOk result (IsTrueOf case.now) }
 {
-    Err(CheckFault::NoMemory(AllocError))
+    match cert {
+        Cert::Optimal { point, z, lines } => {
+            let point = judge_optimal(alloc, case, point, *z, lines.as_slice())?;
+            Ok(Verdict::Optimal(value_of(case, &point)))
+        }
+        Cert::Infeasible { lines } => {
+            judge_lines(case, None, lines.as_slice(), 3)?;
+            Ok(Verdict::Infeasible)
+        }
+        Cert::Unbounded { piece, point, ray } => {
+            judge_unbounded(alloc, case, piece, point, ray.as_slice())?;
+            Ok(Verdict::Unbounded)
+        }
+    }
 }
