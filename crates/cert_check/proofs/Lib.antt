@@ -1,6 +1,7 @@
 pub mod Stable
 pub mod PointLines
-pub mod Lines
+pub mod Barred
 pub mod Following
 pub mod Truth
 pub mod Single
+pub mod Dense

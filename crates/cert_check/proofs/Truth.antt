@@ -23,7 +23,7 @@ use Rattle.cert_check.specs.Acceptance.{Accepts, HasCost, IsWholePiece, NoGoodsF
 use Rattle.cert_check.specs.Barring.{value_at}
 use Rattle.cert_check.proofs.Stable.{Holds, same_stable, lt_stable, relates_stable, all_stable, complementary_stable, tight_stable, numbers_stable}
 use Rattle.cert_check.proofs.PointLines.{PointLinePasses, point_given, abs_of_positive}
-use Rattle.cert_check.proofs.Lines.{nothing_improves}
+use Rattle.cert_check.proofs.Barred.{nothing_improves}
 use Rattle.cert_check.proofs.Following.{falls_below}
 
 abbrev Passes : Instance → Option (ℤ × ℤ) → List CertLine → ℕ → Type 0
