@@ -86,7 +86,7 @@ first_sound a best lines pass (suc n) few =
     let d : CertLine = Derived [] [] in
     let inside : n < length lines = omega arith in
     let before = first_sound a best lines pass n (omega arith) in
-    let here = line_sound a best (map no_good_of (take n lines)) (get_or lines n d) (λ why. pass n (get_or lines n d) why (slice_get-get_or lines n d inside))
+    let here = line_sound a best (map no_good_of (take n lines)) (get_or lines n d) (λ why. pass n (get_or lines n d) why inside (slice_get-get_or lines n d inside))
     (All-map (IsSound a best) no_good_of (take n lines) before) in
     let Q : ℕ → Type 0 = λ m. All (LineIsSound a best) (take m lines) in
     subst Q (add-one n) (All-more (LineIsSound a best) lines n d inside before here)
@@ -114,5 +114,5 @@ ending_bars a best lines bars ends p feasible improves =
 -- the same, from lines of which none fails, wherever they begin
 pub nothing_improves : (a : Instance) (best : Option (Point a.columns)) (lines : List CertLine) (first : ℕ) → ((n : ℕ) (why : NoWhy) → NoGoodsFail a (value_at a best) lines first n why → ⊥) → (p : Point a.columns) → IsFeasible a p → Improves a p best → ⊥
 nothing_improves a best lines first pass p feasible improves =
-    let each : NoGoodsPass a (value_at a best) lines = λ k line why found fails. pass _ why (inl (k, line, found, refl, fails)) in
+    let each : NoGoodsPass a (value_at a best) lines = λ k line why inside found fails. pass _ why (inl (k, line, found, refl, fails)) in
     pass _ NotEmptyAtEnd (inr (refl, refl, λ ends. ending_bars a best lines (lines_bar a best lines each) ends p feasible improves))

@@ -88,17 +88,22 @@ one_of_two : (T : ℕ → Type 0) (q : ℕ × ℕ) (s : Side) → T (member q s)
 one_of_two T q A h = inl h
 one_of_two T q B h = inr h
 
+pub whole_size : (a : Instance) (piece : List Choice) → IsWholePiece a piece → length piece ≡ length a.pairs
+whole_size a piece whole = sym (length-map piece (λ c. c.pair)) ∙ ap length whole ∙ length-range_with_len 0 (length a.pairs)
+
+pub whole_at : (a : Instance) (piece : List Choice) (k : ℕ) (d : Choice) → IsWholePiece a piece → k < length a.pairs → (get_or piece k d).pair ≡ k
+whole_at a piece k d whole inside =
+    let first : 0 + k ≡ k = omega arith in
+    sym (get_or-map (λ (e : Choice). e.pair) piece k d) ∙ ap (λ xs. get_or xs k d.pair) whole ∙ get_or-range_with_len 0 (length a.pairs) k d.pair inside ∙ first
+
 pub complementary_from_piece : (a : Instance) (p : Point a.columns) (piece : List Choice) → IsWholePiece a piece → IsTightAt a p piece → IsComplementary a p
 complementary_from_piece a p piece whole tight k d inside =
     let none : Choice = record { pair = 0; side = A } in
-    let size : length piece ≡ length a.pairs = sym (length-map piece (λ c. c.pair)) ∙ ap length whole ∙ length-range_with_len 0 (length a.pairs) in
-    let within : k < length piece = omega (arith, size) in
-    let first : 0 + k ≡ k = omega arith in
+    let within : k < length piece = omega (arith, inside, whole_size a piece whole) in
     let c = get_or piece k none in
-    let named : c.pair ≡ k = sym (get_or-map (λ (e : Choice). e.pair) piece k none) ∙ ap (λ xs. get_or xs k 0) whole ∙ get_or-range_with_len 0 (length a.pairs) k 0 inside ∙ first in
     let T : ℕ → Type 0 = λ m. IsTight p (constraint_at a m) in
     let here : T (member (pair_at a c.pair) c.side) = tight k none within in
-    let there : T (member (pair_at a k) c.side) = subst (λ m. T (member (pair_at a m) c.side)) named here in
+    let there : T (member (pair_at a k) c.side) = subst (λ m. T (member (pair_at a m) c.side)) (whole_at a piece k none whole inside) here in
     let same : pair_at a k ≡ get_or a.pairs k d = get_or_default a.pairs k (length a.constraints, length a.constraints) d inside in
     subst (λ q. T q.0 ⊎ T q.1) same (one_of_two T (pair_at a k) c.side there)
 

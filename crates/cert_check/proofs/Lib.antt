@@ -5,3 +5,6 @@ pub mod Following
 pub mod Truth
 pub mod Single
 pub mod Dense
+pub mod Forms
+pub mod Endings
+pub mod Judged

@@ -59,20 +59,20 @@ no_goods_one a value lines first n v w (inr x) (inl y) = absurd (omega (arith, y
 no_goods_one a value lines first n v w (inr x) (inr y) = x.1 ∙ sym y.1
 
 -- where no-good lines fail
-from_first : (a : Instance) (value : Option (ℤ × ℤ)) (lines : List CertLine) (first n : ℕ) (v : NoWhy) → NoGoodsFail a value lines first n v → n < first → ⊥
+pub from_first : (a : Instance) (value : Option (ℤ × ℤ)) (lines : List CertLine) (first n : ℕ) (v : NoWhy) → NoGoodsFail a value lines first n v → n < first → ⊥
 from_first a value lines first n v (inl x) before = omega (arith, x.3, before)
 from_first a value lines first n v (inr x) before = omega (arith, x.0, before)
 
 optimal_one : (a : Instance) (point : CertPoint) (z : ℤ) (lines : List CertLine) (n : ℕ) (v w : NoWhy) → OptimalFails a point z lines n v → OptimalFails a point z lines n w → v ≡ w
 optimal_one a point z lines n v w (inl x) (inl y) = point_line_one a _ point v w x.1 y.1
 optimal_one a point z lines n v w (inl x) (inr (inl y)) = absurd (omega (arith, x.0, y.0))
-optimal_one a point z lines n v w (inl x) (inr (inr y)) = absurd (from_first a _ lines 5 n w y (omega (arith, x.0)))
+optimal_one a point z lines n v w (inl x) (inr (inr y)) = absurd (from_first a (Some (z, point.d)) lines 5 n w y (omega (arith, x.0)))
 optimal_one a point z lines n v w (inr (inl x)) (inl y) = absurd (omega (arith, x.0, y.0))
 optimal_one a point z lines n v w (inr (inl x)) (inr (inl y)) = x.1 ∙ sym y.1
-optimal_one a point z lines n v w (inr (inl x)) (inr (inr y)) = absurd (from_first a _ lines 5 n w y (omega (arith, x.0)))
-optimal_one a point z lines n v w (inr (inr x)) (inl y) = absurd (from_first a _ lines 5 n v x (omega (arith, y.0)))
-optimal_one a point z lines n v w (inr (inr x)) (inr (inl y)) = absurd (from_first a _ lines 5 n v x (omega (arith, y.0)))
-optimal_one a point z lines n v w (inr (inr x)) (inr (inr y)) = no_goods_one a _ lines 5 n v w x y
+optimal_one a point z lines n v w (inr (inl x)) (inr (inr y)) = absurd (from_first a (Some (z, point.d)) lines 5 n w y (omega (arith, x.0)))
+optimal_one a point z lines n v w (inr (inr x)) (inl y) = absurd (from_first a (Some (z, point.d)) lines 5 n v x (omega (arith, y.0)))
+optimal_one a point z lines n v w (inr (inr x)) (inr (inl y)) = absurd (from_first a (Some (z, point.d)) lines 5 n v x (omega (arith, y.0)))
+optimal_one a point z lines n v w (inr (inr x)) (inr (inr y)) = no_goods_one a (Some (z, point.d)) lines 5 n v w x y
 
 unbounded_one : (a : Instance) (piece : List Choice) (point : CertPoint) (ray : List (ℕ × ℤ)) (n : ℕ) (v w : NoWhy) → UnboundedFails a piece point ray n v → UnboundedFails a piece point ray n w → v ≡ w
 unbounded_one a piece point ray n v w (inl x) (inl y) = x.1 ∙ sym y.1

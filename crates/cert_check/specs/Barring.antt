@@ -1,5 +1,5 @@
 -- What the no-goods of a certificate leave out.
-use Rattle.std.specs.Prelude.{◌≡◌, ℕ, ℤ, pos, List, Option, Some, None, map, slice_get, take}
+use Rattle.std.specs.Prelude.{◌≡◌, ◌<◌, ℕ, ℤ, pos, List, Option, Some, None, length, map, slice_get, take}
 use Rattle.nogoods.specs.declared.choice.Choice.{Choice}
 use Rattle.nogoods.specs.declared.choice.Side.{Side}
 use Rattle.nogoods.specs.Pieces.{Bars}
@@ -22,7 +22,11 @@ abbrev pub value_at : (a : Instance) → Option (Point a.columns) → Option (�
 value_at a None = None
 value_at a (Some p) = Some (cost_at a p, pos p.d)
 
+-- none of the first n lines fails over the no-goods of the lines before it
+abbrev pub FirstPass : Instance → Option (ℤ × ℤ) → List CertLine → ℕ → Type 0
+FirstPass a value lines n =
+    (k : ℕ) (line : CertLine) (why : NoWhy) → k < n → slice_get lines k ≡ Some line → NoGoodFails a value (map no_good_of (take k lines)) line why → ⊥
+
 -- no line fails over the no-goods of the lines before it
 abbrev pub NoGoodsPass : Instance → Option (ℤ × ℤ) → List CertLine → Type 0
-NoGoodsPass a value lines =
-    (k : ℕ) (line : CertLine) (why : NoWhy) → slice_get lines k ≡ Some line → NoGoodFails a value (map no_good_of (take k lines)) line why → ⊥
+NoGoodsPass a value lines = FirstPass a value lines (length lines)

@@ -11,7 +11,7 @@ use Rattle.cert_check.specs.declared.accept.NoWhy.{NoWhy}
 use Rattle.cert_check.specs.declared.accept.CheckFault.{CheckFault}
 use Rattle.cert_check.specs.declared.accept.CheckFault.TheVariants.{No, NoMemory}
 use Rattle.cert_check.specs.Acceptance.{GivesMet, NoGoodFails}
-use Rattle.cert_check.specs.Barring.{NoGoodsPass}
+use Rattle.cert_check.specs.Barring.{FirstPass, NoGoodsPass}
 
 -- there is no reason to fail, or this is one
 abbrev pub Finds : (NoWhy → Type 0) → Option NoWhy → Type 0
@@ -23,7 +23,7 @@ abbrev pub FindsFirst : Instance → Option (ℤ × ℤ) → List CertLine → O
 FindsFirst a value lines None = NoGoodsPass a value lines
 FindsFirst a value lines (Some found) =
     ((line : CertLine) × (slice_get lines found.0 ≡ Some line) × NoGoodFails a value (map no_good_of (take found.0 lines)) line found.1)
-    × NoGoodsPass a value (take found.0 lines)
+    × FirstPass a value lines found.0
 
 -- the line that is named fails for this reason, and none before it fails
 abbrev pub NamesFirst : (ℕ → NoWhy → Type 0) → CheckFault → Type 0

@@ -136,19 +136,11 @@ fn judge_unbounded(
     Ok(())
 }
 
-/// Accepts the certificate for the case with its verdict, or names the first content line that
-/// fails: a matter of these two alone. Each line is judged over the lines before it, in the time
-/// that its own text takes and that of the lines which its hints name.
-pub fn check(alloc: Global, case: &Case, cert: &Cert) -> Result<Verdict, CheckFault>
+/// Judges a certificate, line by line.
+fn judge(alloc: Global, case: &Case, cert: &Cert) -> Result<Verdict, CheckFault>
     requires { KeepsForm cert.now }
-    // What is answered is so.
     ensures accepted { IfOk result (Accepts case.now cert.now) }
     ensures refused { IfErr result (RefusesAs case.now cert.now) }
-    // What is so is answered, unless memory is short.
-    ensures only_accepted { (v : Claim) → Accepts case.now cert.now v → GivesVerdict result v }
-    ensures only_refused { (line : ℕ) (why : Reason) → Refuses case.now cert.now line why → GivesRefusal result line why }
-    // An accepted certificate's verdict is true.
-    ensures sound { IfOk result (IsTrueOf case.now) }
 {
     match cert {
         Cert::Optimal { point, z, lines } => {
@@ -164,4 +156,23 @@ pub fn check(alloc: Global, case: &Case, cert: &Cert) -> Result<Verdict, CheckFa
             Ok(Verdict::Unbounded)
         }
     }
+}
+
+/// Accepts the certificate for the case with its verdict, or names the first content line that
+/// fails: a matter of these two alone. Each line is judged over the lines before it, in the time
+/// that its own text takes and that of the lines which its hints name.
+pub fn check(alloc: Global, case: &Case, cert: &Cert) -> Result<Verdict, CheckFault>
+    requires { KeepsForm cert.now }
+    // What is answered is so.
+    ensures accepted { IfOk result (Accepts case.now cert.now) }
+    ensures refused { IfErr result (RefusesAs case.now cert.now) }
+    // What is so is answered, unless memory is short.
+    ensures only_accepted { (v : Claim) → Accepts case.now cert.now v → GivesVerdict result v }
+    ensures only_refused { (line : ℕ) (why : Reason) → Refuses case.now cert.now line why → GivesRefusal result line why }
+    // An accepted certificate's verdict is true.
+    ensures sound { IfOk result (IsTrueOf case.now) }
+{
+    // A case keeps its facts: its scale is at least 1.
+    let _pairs = case.pairs();
+    judge(alloc, case, cert)
 }

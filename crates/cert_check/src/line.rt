@@ -1,5 +1,6 @@
 //! The test of one no-good line.
 ghost use Rattle.std.specs.Prelude.{◌≡◌, ◌↔◌, ◌≤ℤ◌, All, IsTrue, map, pos};
+ghost use Rattle.lpcc_case.specs.Pieces.{NamesPairs};
 ghost use Rattle.derivation.specs.HintRuns.{NamesBelow};
 ghost use Rattle.cert_text.specs.Certs.{IsLine, no_good_of};
 ghost use Rattle.cert_check.specs.Acceptance.{HintsPass, IsBoundFor, NoGoodFails, PointCutFails};
@@ -41,9 +42,10 @@ impl NoGoods for Before<'_> {
     }
 }
 
-fn names_pairs(ng: &NoGood, pairs: usize) -> bool
-    ensures { IsTrue result ↔ NamesBelow pairs ng.now }
+fn names_pairs(case: &Case, ng: &NoGood) -> bool
+    ensures { IsTrue result ↔ NamesPairs case.now ng.now }
 {
+    let pairs = case.pairs().len();
     ng.choices()
         .iter()
         .all(|choice| (choice.pair as usize) < pairs)
@@ -55,7 +57,7 @@ fn hints_pass(case: &Case, before: &[CertLine], ng: &NoGood, hints: &[u64]) -> b
     requires form_before { All IsLine before.now }
     ensures { IsTrue result ↔ HintsPass case.now (map no_good_of before.now) ng.now hints.now }
 {
-    names_pairs(ng, case.pairs().len()) && closes(&Before { lines: before }, ng, hints)
+    names_pairs(case, ng) && closes(&Before { lines: before }, ng, hints)
 }
 
 /// Whether the bound `v / e` is at least the value `z / d`.
@@ -64,21 +66,27 @@ fn is_bound_for(value: (i128, i64), v: i128, e: i64) -> bool
     requires second { pos 1 ≤ℤ value.1 }
     ensures { IsTrue result ↔ IsBoundFor value e v }
 {
-    compare(v, e, value.0, value.1) != Ordering::Less
+    match compare(v, e, value.0, value.1) {
+        Ordering::Less => false,
+        Ordering::Equal | Ordering::Greater => true,
+    }
 }
 
-/// Why a point cut fails where the value `z / d` is claimed.
+/// Why a point cut fails over a value `z / d` that is claimed or none.
 fn point_cut_fault(
     case: &Case,
-    value: (i128, i64),
+    value: Option<(i128, i64)>,
     ng: &NoGood,
     mult: &[(u32, i64)],
     e: i64,
 ) -> Option<NoWhy>
-    requires positive { pos 1 ≤ℤ value.1 }
+    requires positive { IsOverPositive value }
     requires divisor { pos 1 ≤ℤ e }
-    ensures { Finds (PointCutFails case.now (Some value) ng.now e mult.now) result }
+    ensures { Finds (PointCutFails case.now value ng.now e mult.now) result }
 {
+    let Some(value) = value else {
+        return Some(NoWhy::WrongKind);
+    };
     match point_bound(case, ng, mult, e) {
         Err(_) => Some(NoWhy::CutFails),
         Ok(v) if is_bound_for(value, v, e) => None,
@@ -86,7 +94,7 @@ fn point_cut_fault(
     }
 }
 
-/// Why the line fails over the lines before it. A value `z / d` is claimed, or none.
+/// Why the line fails over the lines before it and a value `z / d` that is claimed or none.
 pub(crate) fn line_fault(
     case: &Case,
     value: Option<(i128, i64)>,
@@ -98,21 +106,13 @@ pub(crate) fn line_fault(
     requires form_before { All IsLine before.now }
     ensures { Finds (NoGoodFails case.now value (map no_good_of before.now) line.now) result }
 {
-    let (passes, why) = match line {
-        CertLine::Ray { ng, mult } => (
-            check_ray(case, ng, mult.as_slice()).is_ok(),
-            NoWhy::CutFails,
-        ),
-        CertLine::Point { ng, e, mult } => {
-            return match value {
-                None => Some(NoWhy::WrongKind),
-                Some(value) => point_cut_fault(case, value, ng, mult.as_slice(), *e),
-            };
-        }
-        CertLine::Derived { ng, hints } => (
-            hints_pass(case, before, ng, hints.as_slice()),
-            NoWhy::HintFails,
-        ),
-    };
-    if passes { None } else { Some(why) }
+    match line {
+        CertLine::Ray { ng, mult } => match check_ray(case, ng, mult.as_slice()) {
+            Ok(()) => None,
+            Err(_) => Some(NoWhy::CutFails),
+        },
+        CertLine::Point { ng, e, mult } => point_cut_fault(case, value, ng, mult.as_slice(), *e),
+        CertLine::Derived { ng, hints } if hints_pass(case, before, ng, hints.as_slice()) => None,
+        CertLine::Derived { .. } => Some(NoWhy::HintFails),
+    }
 }

@@ -56,7 +56,10 @@ pub(crate) fn met_point(
     }
     let x = numbers_of(alloc, case, terms)?;
     let point = Point { d: line.d, x, z };
-    Ok(if meets(case, &point) { Some(point) } else { None })
+    if !meets(case, &point) {
+        return Ok(None);
+    }
+    Ok(Some(point))
 }
 
 /// Whether there is one choice for each pair.

@@ -1,0 +1,154 @@
+-- What the tests of single lines say of the first line that fails.
+use Rattle.std.proofs.Common.{ℕ, ◌+◌, ◌<◌, ◌≤◌, ◌≡◌, refl, sym, ap, ◌∙◌, subst, arith, ℤ, pos, ◌≤ℤ◌, Bool, true, false, List, length, get_or, inl, inr, map, Some}
+use Rattle.std.specs.Prelude.{◌↔◌, All, unsigned_abs}
+use Rattle.std.specs.List.{range_with_len}
+use Rattle.std.proofs.lemmas.Bool.{both_ways}
+use Rattle.std.proofs.lemmas.List.{length-map, map-id}
+use Rattle.std.proofs.lemmas.List.FromFn.{fill_by_all}
+use Rattle.std.proofs.Math.ListN.{get_or-map}
+use Rattle.lp_base.specs.Sums.{dot}
+use Rattle.nogoods.specs.declared.choice.Choice.{Choice}
+use Rattle.nogoods.specs.declared.choice.Side.TheVariants.{A}
+use Rattle.lpcc_case.specs.Instance.{Instance}
+use Rattle.lpcc_case.specs.Points as points
+use Rattle.lpcc_case.specs.Points.{MeetsAll, IsComplementary, IsTightAt}
+use Rattle.lpcc_case.specs.Pieces.{NamesPairs}
+use Rattle.lpcc_case.specs.NarrowPoints.{AreNumbersOf, IsPointFor, IsPointOf, Means}
+use Rattle.lpcc_case.specs.declared.point.Point.{Point}
+use Rattle.cert_text.specs.declared.cert.CertPoint.{CertPoint}
+use Rattle.cert_text.specs.declared.cert.CertLine.{CertLine}
+use Rattle.cert_text.specs.Certs.{IsPoint}
+use Rattle.cert_check.specs.declared.accept.NoWhy.{NoWhy}
+use Rattle.cert_check.specs.declared.accept.NoWhy.TheVariants.{PointFails, NotComplementary, ValueFails, RayFails}
+use Rattle.cert_check.specs.declared.accept.CheckFault.{CheckFault}
+use Rattle.cert_check.specs.declared.accept.CheckFault.TheVariants.{No, NoMemory}
+use Rattle.cert_check.specs.Acceptance.{GivesMet, HasCost, IsWholePiece, NamesColumns, NoGoodsFail, OptimalFails, PointLineFails, RayPasses, UnboundedFails, numbers_of}
+use Rattle.cert_check.specs.Results.{IsPointOfLine, NamesFirst}
+use Rattle.cert_check.proofs.PointLines.{PointLinePasses, abs_of_positive}
+use Rattle.cert_check.proofs.Following.{whole_size, whole_at}
+use Rattle.cert_check.proofs.Single.{from_first}
+
+-- ---- points
+
+means_from : (a : Instance) (line : CertPoint) (q : Point) → q.x ≡ numbers_of a.columns line.terms → q.d ≡ line.d → (p : points.Point a.columns) → GivesMet a line p → Means q p
+means_from a line q x d p gives = (gives.numbers ∙ sym x, gives.denominator ∙ sym d)
+
+pub point_of_line : (a : Instance) (line : CertPoint) (z : ℤ) (q : Point) (b : Bool) → IsPoint line → NamesColumns a line.terms → AreNumbersOf a q.x → q.x ≡ numbers_of a.columns line.terms → q.d ≡ line.d → q.z ≡ z
+    → ((p : points.Point a.columns) → Means q p → (b ≡ true) ↔ MeetsAll a p) → b ≡ true → IsPointOfLine a line z q
+point_of_line a line z q b form named numbers x d value exact meets =
+    let denominator = abs_of_positive line.d form.positive in
+    let p : points.Point a.columns = record { x = q.x; d = unsigned_abs line.d; size = numbers.size; positive = denominator.1 } in
+    let means : Means q p = (refl, denominator.0 ∙ sym d) in
+    let fits : IsPointFor a q = record { numbers = numbers; narrow = rw d form.narrow; positive = rw d form.positive } in
+    let gives : GivesMet a line p = record { columns = named; numbers = x; denominator = denominator.0; met = (exact p means).0 meets } in
+    record { fits = fits; given = (p, gives); means = means_from a line q x d; denominator = d; value = value }
+
+pub no_point : (a : Instance) (line : CertPoint) (q : Point) (b : Bool) → q.x ≡ numbers_of a.columns line.terms → q.d ≡ line.d
+    → ((p : points.Point a.columns) → Means q p → (b ≡ true) ↔ MeetsAll a p) → b ≡ false → (p : points.Point a.columns) → GivesMet a line p → ⊥
+no_point a line q b x d exact fails p gives = both_ways b fails ((exact p (means_from a line q x d p gives)).1 gives.met)
+
+-- ---- what is asked of a point besides
+
+pub lacks : (a : Instance) (Asked : points.Point a.columns → Type 0) (line : CertPoint) (z : ℤ) (q : Point) (b : Bool) → IsPointOfLine a line z q
+    → ((p : points.Point a.columns) → Means q p → (b ≡ true) ↔ Asked p) → b ≡ false → PointLineFails a Asked line NotComplementary
+lacks a Asked line z q b m exact fails =
+    inr (refl, m.given.0, m.given.1, λ asked. both_ways b fails ((exact m.given.0 (m.means m.given.0 m.given.1)).1 asked))
+
+pub has : (a : Instance) (Asked : points.Point a.columns → Type 0) (line : CertPoint) (z : ℤ) (q : Point) (b : Bool) → IsPointOfLine a line z q
+    → ((p : points.Point a.columns) → Means q p → (b ≡ true) ↔ Asked p) → b ≡ true → PointLinePasses a Asked line
+has a Asked line z q b m exact holds why (inl x) = x.1 m.given.0 m.given.1
+has a Asked line z q b m exact holds why (inr y) = y.3 ((exact y.1 (m.means y.1 y.2)).0 holds)
+
+numbers_are : (a : Instance) (line : CertPoint) (z : ℤ) (q : Point) → IsPointOfLine a line z q → q.x ≡ numbers_of a.columns line.terms
+numbers_are a line z q m = sym ((m.means m.given.0 m.given.1).0) ∙ m.given.1.numbers
+
+pub has_cost : (a : Instance) (line : CertPoint) (z : ℤ) (q : Point) → IsPointOfLine a line z q → IsPointOf a q → HasCost a line z
+has_cost a line z q m is = sym m.value ∙ is.cost ∙ ap (dot a.cost) (numbers_are a line z q m)
+
+pub no_cost : (a : Instance) (line : CertPoint) (z : ℤ) (q : Point) (b : Bool) → IsPointOfLine a line z q → (b ≡ true) ↔ IsPointOf a q → b ≡ false → HasCost a line z → ⊥
+no_cost a line z q b m exact fails cost =
+    both_ways b fails (exact.1 (record { fits = m.fits; cost = m.value ∙ cost ∙ ap (dot a.cost) (sym (numbers_are a line z q m)) }))
+
+-- ---- the first line that fails in a certificate of an optimum
+
+-- it fails, and none before it
+abbrev pub IsFirst : (ℕ → NoWhy → Type 0) → ℕ → NoWhy → Type 0
+IsFirst Fails n why = Fails n why × ((m : ℕ) (other : NoWhy) → m < n → Fails m other → ⊥)
+
+optimal_from : (a : Instance) (line : CertPoint) (z : ℤ) (lines : List CertLine) (n : ℕ) (why : NoWhy) → OptimalFails a line z lines n why → n < 3 → ⊥
+optimal_from a line z lines n why (inl x) before = omega (arith, x.0, before)
+optimal_from a line z lines n why (inr (inl x)) before = omega (arith, x.0, before)
+optimal_from a line z lines n why (inr (inr x)) before = from_first a (Some (z, line.d)) lines 5 n why x (omega (arith, before))
+
+pub optimal_point_first : (a : Instance) (line : CertPoint) (z : ℤ) (lines : List CertLine) (why : NoWhy) → PointLineFails a (IsComplementary a) line why → IsFirst (OptimalFails a line z lines) 3 why
+optimal_point_first a line z lines why fails = (inl (refl, fails), λ m other before f. optimal_from a line z lines m other f before)
+
+optimal_point_passed : (a : Instance) (line : CertPoint) (z : ℤ) (lines : List CertLine) (n : ℕ) (why : NoWhy) → PointLinePasses a (IsComplementary a) line → OptimalFails a line z lines n why → n < 4 → ⊥
+optimal_point_passed a line z lines n why passes (inl x) before = passes why x.1
+optimal_point_passed a line z lines n why passes (inr (inl x)) before = omega (arith, x.0, before)
+optimal_point_passed a line z lines n why passes (inr (inr x)) before = from_first a (Some (z, line.d)) lines 5 n why x (omega (arith, before))
+
+pub optimal_value_first : (a : Instance) (line : CertPoint) (z : ℤ) (lines : List CertLine) → PointLinePasses a (IsComplementary a) line → (HasCost a line z → ⊥) → IsFirst (OptimalFails a line z lines) 4 ValueFails
+optimal_value_first a line z lines passes fails = (inr (inl (refl, refl, fails)), λ m other before f. optimal_point_passed a line z lines m other passes f before)
+
+-- a line that fails is one of the no-good lines
+optimal_rest : (a : Instance) (line : CertPoint) (z : ℤ) (lines : List CertLine) (n : ℕ) (why : NoWhy) → PointLinePasses a (IsComplementary a) line → HasCost a line z → OptimalFails a line z lines n why → NoGoodsFail a (Some (z, line.d)) lines 5 n why
+optimal_rest a line z lines n why passes cost (inl x) = absurd (passes why x.1)
+optimal_rest a line z lines n why passes cost (inr (inl x)) = absurd (x.2 cost)
+optimal_rest a line z lines n why passes cost (inr (inr x)) = x
+
+pub optimal_lines_first : (a : Instance) (line : CertPoint) (z : ℤ) (lines : List CertLine) (fault : CheckFault) → PointLinePasses a (IsComplementary a) line → HasCost a line z → NamesFirst (NoGoodsFail a (Some (z, line.d)) lines 5) fault → NamesFirst (OptimalFails a line z lines) fault
+optimal_lines_first a line z lines (No n why) passes cost first = (inr (inr first.0), λ m other before f. first.1 m other before (optimal_rest a line z lines m other passes cost f))
+optimal_lines_first a line z lines (NoMemory error) passes cost first = tt
+
+pub optimal_none : (a : Instance) (line : CertPoint) (z : ℤ) (lines : List CertLine) → PointLinePasses a (IsComplementary a) line → HasCost a line z → ((n : ℕ) (why : NoWhy) → NoGoodsFail a (Some (z, line.d)) lines 5 n why → ⊥) → (n : ℕ) (why : NoWhy) → OptimalFails a line z lines n why → ⊥
+optimal_none a line z lines passes cost none n why f = none n why (optimal_rest a line z lines n why passes cost f)
+
+-- ---- and in a certificate that the cost falls without end
+
+unbounded_from : (a : Instance) (piece : List Choice) (line : CertPoint) (ray : List (ℕ × ℤ)) (n : ℕ) (why : NoWhy) → UnboundedFails a piece line ray n why → n < 3 → ⊥
+unbounded_from a piece line ray n why (inl x) before = omega (arith, x.0, before)
+unbounded_from a piece line ray n why (inr (inl x)) before = omega (arith, x.0, before)
+unbounded_from a piece line ray n why (inr (inr x)) before = omega (arith, x.0, before)
+
+pub piece_first : (a : Instance) (piece : List Choice) (line : CertPoint) (ray : List (ℕ × ℤ)) → (IsWholePiece a piece → ⊥) → IsFirst (UnboundedFails a piece line ray) 3 NotComplementary
+piece_first a piece line ray fails = (inl (refl, refl, fails), λ m other before f. unbounded_from a piece line ray m other f before)
+
+piece_passed : (a : Instance) (piece : List Choice) (line : CertPoint) (ray : List (ℕ × ℤ)) (n : ℕ) (why : NoWhy) → IsWholePiece a piece → UnboundedFails a piece line ray n why → n < 4 → ⊥
+piece_passed a piece line ray n why whole (inl x) before = x.2 whole
+piece_passed a piece line ray n why whole (inr (inl x)) before = omega (arith, x.0, before)
+piece_passed a piece line ray n why whole (inr (inr x)) before = omega (arith, x.0, before)
+
+pub unbounded_point_first : (a : Instance) (piece : List Choice) (line : CertPoint) (ray : List (ℕ × ℤ)) (why : NoWhy) → IsWholePiece a piece → PointLineFails a (λ p. IsTightAt a p piece) line why → IsFirst (UnboundedFails a piece line ray) 4 why
+unbounded_point_first a piece line ray why whole fails = (inr (inl (refl, fails)), λ m other before f. piece_passed a piece line ray m other whole f before)
+
+unbounded_rest : (a : Instance) (piece : List Choice) (line : CertPoint) (ray : List (ℕ × ℤ)) (n : ℕ) (why : NoWhy) → IsWholePiece a piece → PointLinePasses a (λ p. IsTightAt a p piece) line → UnboundedFails a piece line ray n why → (n ≡ 5) × (RayPasses a piece ray → ⊥)
+unbounded_rest a piece line ray n why whole passes (inl x) = absurd (x.2 whole)
+unbounded_rest a piece line ray n why whole passes (inr (inl x)) = absurd (passes why x.1)
+unbounded_rest a piece line ray n why whole passes (inr (inr x)) = (x.0, x.2)
+
+pub ray_first : (a : Instance) (piece : List Choice) (line : CertPoint) (ray : List (ℕ × ℤ)) → IsWholePiece a piece → PointLinePasses a (λ p. IsTightAt a p piece) line → (RayPasses a piece ray → ⊥) → IsFirst (UnboundedFails a piece line ray) 5 RayFails
+ray_first a piece line ray whole passes fails =
+    (inr (inr (refl, refl, fails)), λ m other before f. let rest = unbounded_rest a piece line ray m other whole passes f in omega (arith, rest.0, before))
+
+pub unbounded_none : (a : Instance) (piece : List Choice) (line : CertPoint) (ray : List (ℕ × ℤ)) → IsWholePiece a piece → PointLinePasses a (λ p. IsTightAt a p piece) line → RayPasses a piece ray → (n : ℕ) (why : NoWhy) → UnboundedFails a piece line ray n why → ⊥
+unbounded_none a piece line ray whole passes goes n why f = (unbounded_rest a piece line ray n why whole passes f).1 goes
+
+-- ---- pieces
+
+pub whole_names : (a : Instance) (piece : List Choice) → IsWholePiece a piece → NamesPairs a piece
+whole_names a piece whole k d inside =
+    let size = whole_size a piece whole in
+    let within : k < length a.pairs = omega (arith, inside, size) in
+    let at = whole_at a piece k d whole within in
+    omega (arith, within, at)
+
+-- a list whose places hold their numbers
+counted : (xs : List ℕ) (n : ℕ) → length xs ≡ n → ((k : ℕ) → k < n → get_or xs k 0 ≡ k) → xs ≡ range_with_len 0 n
+counted xs n size each = fill_by_all (λ k. k) xs n 0 size each ∙ map-id (range_with_len 0 n)
+
+pub whole_from : (a : Instance) (piece : List Choice) → length piece ≡ length a.pairs → ((k : ℕ) (d : Choice) → k < length piece → (get_or piece k d).pair ≡ k) → IsWholePiece a piece
+whole_from a piece size each =
+    let none : Choice = record { pair = 0; side = A } in
+    counted (map (λ c. c.pair) piece) (length a.pairs) (length-map piece (λ c. c.pair) ∙ size)
+    (λ k inside. get_or-map (λ (e : Choice). e.pair) piece k none ∙ each k none (omega (arith, inside, size)))
