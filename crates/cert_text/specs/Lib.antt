@@ -1,5 +1,8 @@
 pub mod Certs
 pub mod Spelling
-pub mod Answers
 pub mod Parts
+pub mod Lines
 pub mod Reading
+pub mod Faults
+pub mod Texts
+pub mod Names

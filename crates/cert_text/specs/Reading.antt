@@ -1,176 +1,231 @@
--- Reading a certificate from the front, word by word: what each part of a text spells, or none.
-use Rattle.std.specs.Prelude.{◌≡◌, ◌+◌, ◌-◌, ◌*◌, ◌^◌, ℕ, ℤ, pos, neg_ℤ, Bool, false, ◌&&◌, ◌==◌, nat_lt, nat_le, if◌then◌else◌, List, [], ◌∷◌, ◌++◌, length, take, drop, slice_index, slice_index_or, Option, Some, None, Result, Ok, Err, codes, bytes_eq}
+-- What words spell, judged word by word from the front: a value, or the first reason against it.
+use Rattle.std.specs.Prelude.{◌+◌, ◌-◌, ◌^◌, ℕ, ℤ, pos, negsuc, neg_ℤ, unsigned_abs, Bool, false, not, ◌&&◌, ◌==◌, nat_lt, nat_le, if◌then◌else◌, List, [], ◌∷◌, length, take, slice_index, Option, Some, None, Result, Ok, Err, codes, bytes_eq}
 use Rattle.std.specs.Char.{is_ascii_digit}
-use Rattle.std.specs.Fmt.{decimal}
-use Rattle.lp_base.specs.Ascending.{ascends_by}
+use Rattle.std.specs.Str.{all_ascii_digits}
+use Rattle.std.specs.Str.Parse.{digits_value}
 use Rattle.nogoods.specs.declared.choice.Choice.{Choice}
 use Rattle.nogoods.specs.declared.choice.Side.{Side}
 use Rattle.nogoods.specs.declared.choice.Side.TheVariants.{A, B}
-use Rattle.nogoods.specs.Choices.{pairs_ascend}
-use Rattle.cert_text.specs.declared.cert.Cert.{Cert}
-use Rattle.cert_text.specs.declared.cert.Cert.TheVariants.{Infeasible}
+use Rattle.cert_text.specs.declared.cert.CertPoint.{CertPoint}
 use Rattle.cert_text.specs.declared.cert.CertLine.{CertLine}
 use Rattle.cert_text.specs.declared.cert.CertLine.TheVariants.{Ray, Point, Derived}
-use Rattle.cert_text.specs.declared.fault.CertFault.{CertFault}
-use Rattle.cert_text.specs.declared.fault.CertFault.TheVariants.{NoMemory, NotYet}
-use Rattle.cert_text.specs.Certs.{constraint_of}
+use Rattle.cert_text.specs.declared.fault.CertWhy.{CertWhy}
+use Rattle.cert_text.specs.declared.fault.CertWhy.TheVariants.{BadLine, BadChoice, NumberWide, BadCount}
 use Rattle.cert_text.specs.Spelling.{Word, colon}
-use Rattle.cert_text.specs.Parts.{parts}
+
+abbrev pub Reading : Type 0 → Type 0
+Reading A = Result A CertWhy
 
 infixl 10 ◌>>=◌
-abbrev pub ◌>>=◌ : {A B : Type 0} → Option A → (A → Option B) → Option B
-(Some x) >>= f = f x
-None >>= f = None
-
--- the call answers what reading gives, seen by view, unless memory ran out
-abbrev pub Refuses : {Y : Type 0} → CertFault → Option Y → Type 0
-Refuses (NoMemory e) read = Unit {0}
-Refuses NotYet read = read ≡ None
-
-abbrev pub Gives : {X Y : Type 0} → (X → Y) → Result X CertFault → Option Y → Type 0
-Gives view (Ok x) read = read ≡ Some (view x)
-Gives view (Err fault) read = Refuses fault read
+abbrev pub ◌>>=◌ : {A B : Type 0} → Reading A → (A → Reading B) → Reading B
+(Ok x) >>= f = f x
+(Err why) >>= f = Err why
 
 -- ---- numbers
 
--- the number n with one more digit behind it, below 2^64
-abbrev pub with_digit : ℕ → ℕ → Option ℕ
-with_digit n byte = if is_ascii_digit byte && nat_lt (n * 10 + (byte - 48)) (2 ^ 64) then Some (n * 10 + (byte - 48)) else None
-
-unfoldable pub value_from : ℕ → Word → Option ℕ
-value_from n [] = Some n
-value_from n (byte ∷ word) = with_digit n byte >>= λ m. value_from m word
-
 -- digits, with no zero in front of others
-unfoldable pub natural_at : Word → Option ℕ
-natural_at [] = None
-natural_at (b ∷ []) = value_from 0 (b ∷ [])
-natural_at (b ∷ c ∷ word) = if b == 48 then None else value_from 0 (b ∷ c ∷ word)
+abbrev pub is_numeral : Word → Bool
+is_numeral [] = false
+is_numeral (b ∷ []) = is_ascii_digit b
+is_numeral (b ∷ c ∷ word) = not (b == 48) && all_ascii_digits (b ∷ c ∷ word)
 
--- a number from 1 to the greatest, counted from 0
-unfoldable pub index_at : ℕ → Word → Option ℕ
-index_at greatest word = natural_at word >>= λ n. if nat_lt 0 n && nat_le n greatest then Some (n - 1) else None
+-- a whole number of at least 0
+unfoldable pub natural_at : Word → Reading ℕ
+natural_at word = if is_numeral word then Ok (digits_value 10 word) else Err BadLine
 
-abbrev pub positive : ℕ → Option ℤ
-positive n = if nat_lt 0 n && nat_lt n (2 ^ 63) then Some (pos n) else None
+abbrev pub below_zero : ℕ → Reading ℤ
+below_zero n = if n == 0 then Err BadLine else Ok (neg_ℤ (pos n))
 
-unfoldable pub positive_at : Word → Option ℤ
+-- a whole number: a minus may stand in front of digits other than `0`
+unfoldable pub whole_at : Word → Reading ℤ
+whole_at [] = Err BadLine
+whole_at (b ∷ word) = if b == 45 then (natural_at word >>= below_zero) else (natural_at (b ∷ word) >>= λ n. Ok (pos n))
+
+-- from 1 to the greatest. Texts count from 1, and certificates from 0.
+abbrev pub counted : ℕ → ℕ → Reading ℕ
+counted greatest n = if n == 0 then Err BadLine else if nat_lt greatest n then Err NumberWide else Ok (n - 1)
+
+-- a number below zero is refused here as a word that is no number is
+unfoldable pub index_at : ℕ → Word → Reading ℕ
+index_at greatest word = natural_at word >>= counted greatest
+
+-- narrow, and at least 1
+abbrev pub positive : ℕ → Reading ℤ
+positive n = if n == 0 then Err BadLine else if nat_lt n (2 ^ 63) then Ok (pos n) else Err NumberWide
+
+unfoldable pub positive_at : Word → Reading ℤ
 positive_at word = natural_at word >>= positive
 
--- a number that is not zero, of at most 2^63 - 1 in size
-unfoldable pub factor_at : Word → Option ℤ
-factor_at [] = None
-factor_at (b ∷ word) = if b == 45 then (positive_at word >>= λ z. Some (neg_ℤ z)) else positive_at (b ∷ word)
+-- narrow, and not zero
+abbrev pub factor : ℤ → Reading ℤ
+factor z = if unsigned_abs z == 0 then Err BadLine else if nat_lt (unsigned_abs z) (2 ^ 63) then Ok z else Err NumberWide
+
+unfoldable pub factor_at : Word → Reading ℤ
+factor_at word = whole_at word >>= factor
+
+-- at most 2^126 in size
+abbrev pub cost_value : ℤ → Reading ℤ
+cost_value z = if nat_le (unsigned_abs z) (2 ^ 126) then Ok z else Err NumberWide
+
+unfoldable pub cost_value_at : Word → Reading ℤ
+cost_value_at word = whole_at word >>= cost_value
+
+-- the number of no-good lines, of which there are n
+abbrev pub count : ℕ → ℤ → Reading ℕ
+count n (negsuc k) = Err BadCount
+count n (pos k) = if nat_le (2 ^ 64) k then Err NumberWide else if k == n then Ok k else Err BadCount
+
+unfoldable pub count_at : ℕ → Word → Reading ℕ
+count_at n word = whole_at word >>= count n
 
 -- ---- words
 
 abbrev pub side_at : ℕ → Option Side
 side_at letter = if letter == 97 then Some A else if letter == 98 then Some B else None
 
-unfoldable pub choice_at : Word → Option Choice
-choice_at word = do
-  side ← side_at (slice_index word (length word - 1))
-  pair ← index_at 512 (take (length word - 1) word)
-  Some (record { pair = pair; side = side })
+-- the side and the pair of a choice whose pair is at least `least`
+abbrev pub chosen : ℕ → Option Side → Reading ℕ → Reading Choice
+chosen least None pair = Err BadChoice
+chosen least (Some side) (Err why) = Err BadChoice
+chosen least (Some side) (Ok pair) = if nat_lt pair least then Err BadChoice else Ok (record { pair = pair; side = side })
 
-unfoldable pub multiplier_at : Word → Word → Option (ℕ × ℤ)
-multiplier_at number factor = do
-  constraint ← index_at (2 ^ 32 - 1) number
-  y ← factor_at factor
-  Some (constraint, y)
+-- a choice begins with a digit: the pair's number, from 1 to 512, and the letter of its side
+unfoldable pub choice_at : ℕ → Word → Reading Choice
+choice_at least word =
+    if is_ascii_digit (slice_index word 0) then chosen least (side_at (slice_index word (length word - 1))) (index_at 512 (take (length word - 1) word))
+    else Err BadLine
 
-unfoldable pub hint_at : Word → Option ℕ
+-- the number of a column or a constraint, at least `least`
+abbrev pub from_least : ℕ → ℕ → Reading ℕ
+from_least least n = if nat_lt n least then Err BadLine else Ok n
+
+unfoldable pub number_at : ℕ → Word → Reading ℕ
+number_at least word = index_at (2 ^ 32 - 1) word >>= from_least least
+
+unfoldable pub hint_at : Word → Reading ℕ
 hint_at word = index_at (2 ^ 64 - 1) word
 
--- what stands behind a part that has to be this one
-unfoldable pub after : List ℕ → List (List ℕ) → Option (List (List ℕ))
-after wanted [] = None
-after wanted (part ∷ rest) = if bytes_eq part wanted then Some rest else None
+-- ---- lists of words
 
--- ---- lists of words, behind what was read before
+-- what stands behind a first word that has to be this one
+unfoldable pub after : Word → List Word → Reading (List Word)
+after wanted [] = Err BadLine
+after wanted (word ∷ words) = if bytes_eq word wanted then Ok words else Err BadLine
 
--- choices up to the colon, and what stands behind it
-unfoldable pub choices_from : List Choice → List Word → Option (List Choice × List Word)
-choices_from before [] = None
-choices_from before (word ∷ words) = if bytes_eq word colon then Some (before, words) else choice_at word >>= λ c. choices_from (before ++ c ∷ []) words
+-- no word is left
+unfoldable pub ended : List Word → Reading (List Word)
+ended [] = Ok []
+ended (word ∷ words) = Err BadLine
 
-unfoldable pub no_good_at : List Word → Option (List Choice × List Word)
-no_good_at words = choices_from [] words >>= λ x. if pairs_ascend x.0 then Some x else None
+-- choices up to the colon, their pairs ascending from the least one on, and what stands behind it
+unfoldable pub choices_from : ℕ → List Word → Reading (List Choice × List Word)
+choices_from least [] = Err BadLine
+choices_from least (word ∷ words) =
+    if bytes_eq word colon then Ok ([], words) else do
+      c ← choice_at least word
+      found ← choices_from (c.pair + 1) words
+      Ok (c ∷ found.0, found.1)
 
-unfoldable pub multipliers_from : List (ℕ × ℤ) → List Word → Option (List (ℕ × ℤ))
-multipliers_from before [] = Some before
-multipliers_from before (number ∷ []) = None
-multipliers_from before (number ∷ factor ∷ words) = multiplier_at number factor >>= λ m. multipliers_from (before ++ m ∷ []) words
+-- choices up to the end of the line
+unfoldable pub last_choices_from : ℕ → List Word → Reading (List Choice)
+last_choices_from least [] = Ok []
+last_choices_from least (word ∷ words) = do
+  c ← choice_at least word
+  choices ← last_choices_from (c.pair + 1) words
+  Ok (c ∷ choices)
 
-unfoldable pub multipliers_at : List Word → Option (List (ℕ × ℤ))
-multipliers_at words = multipliers_from [] words >>= λ mult. if ascends_by constraint_of mult then Some mult else None
+-- numbers that ascend from the least one on, each with another that is not zero, up to the end of the line
+unfoldable pub terms_from : ℕ → List Word → Reading (List (ℕ × ℤ))
+terms_from least [] = Ok []
+terms_from least (number ∷ []) = number_at least number >>= λ n. Err BadLine
+terms_from least (number ∷ word ∷ words) = do
+  n ← number_at least number
+  z ← factor_at word
+  terms ← terms_from (n + 1) words
+  Ok ((n, z) ∷ terms)
 
-unfoldable pub hints_from : List ℕ → List Word → Option (List ℕ)
-hints_from before [] = Some before
-hints_from before (word ∷ words) = hint_at word >>= λ h. hints_from (before ++ h ∷ []) words
+unfoldable pub hints_at : List Word → Reading (List ℕ)
+hints_at [] = Ok []
+hints_at (word ∷ words) = do
+  h ← hint_at word
+  hints ← hints_at words
+  Ok (h ∷ hints)
 
 -- ---- lines
 
-unfoldable pub ray_at : List Word → Option CertLine
-ray_at words = do
-  choices ← no_good_at words
-  mult ← multipliers_at choices.1
-  Some (Ray choices.0 mult)
-
--- the least value of a point cut, and what stands behind its colon
-unfoldable pub bound_at : List Word → Option (ℤ × List Word)
-bound_at [] = None
+-- a positive number with a colon behind it, and what stands behind that
+unfoldable pub bound_at : List Word → Reading (ℤ × List Word)
+bound_at [] = Err BadLine
 bound_at (word ∷ words) = do
   e ← positive_at word
   rest ← after colon words
-  Some (e, rest)
+  Ok (e, rest)
 
-unfoldable pub point_at : List Word → Option CertLine
+unfoldable pub point_at : List Word → Reading CertPoint
 point_at words = do
-  choices ← no_good_at words
+  rest ← after (codes "point") words
+  bound ← bound_at rest
+  terms ← terms_from 0 bound.1
+  Ok (record { d = bound.0; terms = terms })
+
+-- the first word that is left
+unfoldable pub first_at : List Word → Reading (Word × List Word)
+first_at [] = Err BadLine
+first_at (word ∷ words) = Ok (word, words)
+
+unfoldable pub value_at : List Word → Reading ℤ
+value_at words = do
+  rest ← after (codes "value") words
+  first ← first_at rest
+  z ← cost_value_at first.0
+  _ ← ended first.1
+  Ok z
+
+unfoldable pub piece_at : List Word → Reading (List Choice)
+piece_at words = do
+  rest ← after (codes "piece") words
+  last_choices_from 0 rest
+
+unfoldable pub ray_at : List Word → Reading (List (ℕ × ℤ))
+ray_at words = do
+  rest ← after (codes "ray") words
+  terms ← after colon rest
+  terms_from 0 terms
+
+unfoldable pub ray_cut_at : List Word → Reading CertLine
+ray_cut_at words = do
+  choices ← choices_from 0 words
+  mult ← terms_from 0 choices.1
+  Ok (Ray choices.0 mult)
+
+unfoldable pub point_cut_at : List Word → Reading CertLine
+point_cut_at words = do
+  choices ← choices_from 0 words
   bound ← bound_at choices.1
-  mult ← multipliers_at bound.1
-  Some (Point choices.0 bound.0 mult)
+  mult ← terms_from 0 bound.1
+  Ok (Point choices.0 bound.0 mult)
 
-unfoldable pub derived_at : List Word → Option CertLine
+unfoldable pub derived_at : List Word → Reading CertLine
 derived_at words = do
-  choices ← no_good_at words
-  hints ← hints_from [] choices.1
-  Some (Derived choices.0 hints)
+  choices ← choices_from 0 words
+  hints ← hints_at choices.1
+  Ok (Derived choices.0 hints)
 
--- the line of this first word, and the words behind it
-unfoldable pub line_at : Word → List Word → Option CertLine
-line_at kind words =
-    if bytes_eq kind (codes "i") then ray_at words else
-    if bytes_eq kind (codes "p") then point_at words else
-    if bytes_eq kind (codes "d") then derived_at words else None
+-- the no-good line of this first word, and the words behind it
+unfoldable pub cut_at : Word → List Word → Reading CertLine
+cut_at kind words =
+    if bytes_eq kind (codes "i") then ray_cut_at words else
+    if bytes_eq kind (codes "p") then point_cut_at words else
+    if bytes_eq kind (codes "d") then derived_at words else Err BadLine
 
--- the one word that is left is this number
-unfoldable pub is_count : ℕ → List Word → Bool
-is_count n [] = false
-is_count n (word ∷ []) = bytes_eq word (decimal n)
-is_count n (word ∷ other ∷ words) = false
+unfoldable pub line_at : List Word → Reading CertLine
+line_at words = first_at words >>= λ first. cut_at first.0 first.1
 
--- the lines of no-goods up to the last line, which counts them, and what stands behind it
-unfoldable pub lines_from : List CertLine → List (List ℕ) → Option (List CertLine × List (List ℕ))
-lines_from before [] = None
-lines_from before (line ∷ lines) =
-    let kind = slice_index_or (parts 32 line) 0 [] in
-    let words = drop 1 (parts 32 line) in
-    if bytes_eq kind (codes "end") then (if is_count (length before) words then Some (before, lines) else None) else
-    line_at kind words >>= λ x. lines_from (before ++ x ∷ []) lines
-
--- nothing stands behind the last LF
-unfoldable pub is_finished : List (List ℕ) → Bool
-is_finished [] = false
-is_finished (line ∷ []) = length line == 0
-is_finished (line ∷ other ∷ lines) = false
-
--- ---- the text
-
-unfoldable pub cert_at : List (List ℕ) → Option Cert
-cert_at lines = do
-  behind_head ← after (codes "lpcc-certificate 1") lines
-  behind_kind ← after (codes "infeasible") behind_head
-  found ← lines_from [] behind_kind
-  if is_finished found.1 then Some (Infeasible found.0) else None
+-- the last line, behind n no-good lines
+unfoldable pub end_at : ℕ → List Word → Reading ℕ
+end_at n words = do
+  rest ← after (codes "end") words
+  first ← first_at rest
+  k ← count_at n first.0
+  _ ← ended first.1
+  Ok k

@@ -13,7 +13,9 @@ pub enum Cert {
         lines: Sequence<CertLine>,
     },
     /// The lines show that no point is feasible.
-    Infeasible { lines: Sequence<CertLine> },
+    Infeasible {
+        lines: Sequence<CertLine>,
+    },
     /// From a point of the piece the ray can be followed without end, the cost falling.
     Unbounded {
         piece: NoGood,

@@ -1,4 +1,7 @@
 //! Why a text is no certificate.
+ghost use Rattle.std.specs.Prelude.{◌≡◌};
+ghost use Rattle.cert_text.specs.Names.{name_of};
+
 use std::alloc::AllocError;
 use thiserror::Error;
 
@@ -39,5 +42,22 @@ impl From<AllocError> for CertFault {
 
     fn from(error: AllocError) -> CertFault {
         CertFault::NoMemory(error)
+    }
+}
+
+impl CertWhy {
+    /// The name of the reason.
+    pub fn name(self) -> &'static str
+        ensures { result.now ≡ name_of self }
+    {
+        match self {
+            CertWhy::BadHead => "BadHead",
+            CertWhy::BadLine => "BadLine",
+            CertWhy::BadChoice => "BadChoice",
+            CertWhy::NumberWide => "NumberWide",
+            CertWhy::BadCount => "BadCount",
+            CertWhy::NotEnded => "NotEnded",
+            CertWhy::AfterEnd => "AfterEnd",
+        }
     }
 }

