@@ -52,7 +52,7 @@ abbrev pub is_ended : List (List ℕ) → Bool
 is_ended lines = list_any is_last lines
 
 -- the first reason against what was read
-abbrev pub reason : {A : Type 0} → Reading A → Option CertWhy
+abbrev pub reason : {X : Type 0} → Reading X → Option CertWhy
 reason (Ok x) = None
 reason (Err why) = Some why
 

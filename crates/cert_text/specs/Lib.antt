@@ -6,3 +6,6 @@ pub mod Reading
 pub mod Faults
 pub mod Texts
 pub mod Names
+pub mod Capped
+pub mod Steps
+pub mod Writing

@@ -14,12 +14,12 @@ use Rattle.cert_text.specs.declared.fault.CertWhy.TheVariants.{BadLine, BadChoic
 use Rattle.cert_text.specs.Spelling.{Word, colon}
 
 abbrev pub Reading : Type 0 → Type 0
-Reading A = Result A CertWhy
+Reading X = Result X CertWhy
 
 infixl 10 ◌>>=◌
-abbrev pub ◌>>=◌ : {A B : Type 0} → Reading A → (A → Reading B) → Reading B
+abbrev pub ◌>>=◌ : {X Y E : Type 0} → Result X E → (X → Result Y E) → Result Y E
 (Ok x) >>= f = f x
-(Err why) >>= f = Err why
+(Err e) >>= f = Err e
 
 -- ---- numbers
 

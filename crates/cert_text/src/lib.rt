@@ -5,7 +5,12 @@
 mod cert;
 mod fault;
 mod laws;
+mod lines;
+mod lists;
+mod parts;
 mod read;
+mod rows;
+mod words;
 mod write;
 
 pub use cert::{Cert, CertLine, CertPoint};

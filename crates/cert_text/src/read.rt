@@ -1,11 +1,194 @@
-//! Reading a certificate.
-ghost use Rattle.std.specs.Prelude.{◌≡◌, ◌<◌, ◌-◌, ◌^◌, ℕ, IfOk, IfErr, Ok, Err, length};
+//! Reading a certificate, line by line.
+ghost use Rattle.std.specs.Prelude.{◌≡◌, ◌<◌, ◌-◌, ◌^◌, ℕ, IfOk, IfErr, Ok, Err, bytes_eq, codes, length};
 ghost use Rattle.cert_text.specs.declared.cert.Cert.{Cert as Certificate};
 ghost use Rattle.cert_text.specs.declared.fault.CertWhy.{CertWhy as Why};
+ghost use Rattle.cert_text.specs.Faults.{is_last};
+ghost use Rattle.cert_text.specs.Reading.{point_at, value_at, piece_at, ray_at};
 ghost use Rattle.cert_text.specs.Texts.{Spells, FailsAs, Fails, Gives};
+ghost use Rattle.cert_text.specs.Steps.{Finds, Reads, all_lines, line_as, head_step, kind_in, kind_step, entry_at, log_step, last_step, optimal_step, infeasible_step, unbounded_step, step_of, behind_end, cert_at};
 
-use crate::{Cert, CertFault};
-use std::alloc::{AllocError, Global};
+use crate::lines::{Lines, Next};
+use crate::parts::Parts;
+use crate::rows::{end_of, line_of, piece_of, point_of, ray_of, value_of};
+use crate::words::Fault;
+use crate::{Cert, CertFault, CertLine, CertPoint, CertWhy};
+use lp_base::Sequence;
+use nogoods::NoGood;
+use std::alloc::Global;
+
+/// The kinds of certificates.
+pub enum Kind {
+    Optimal,
+    Infeasible,
+    Unbounded,
+}
+
+fn take_head(lines: &mut Lines) -> Result<(), CertFault>
+    ensures { Finds (λ _. lines.new) result (head_step lines.old) }
+{
+    let line = lines.next_number();
+    let why = match lines.next() {
+        Next::Whole(bytes) if bytes == b"lpcc-certificate 1".as_slice() => return Ok(()),
+        Next::Cut => CertWhy::NotEnded,
+        Next::Whole(_) | Next::Over => CertWhy::BadHead,
+    };
+    Err(CertFault::At { line, why })
+}
+
+fn kind_of(line: &[u8]) -> Result<Kind, Fault>
+    ensures { Reads (λ kind. kind) result (kind_in line.now) }
+{
+    if line == b"optimal".as_slice() {
+        return Ok(Kind::Optimal);
+    }
+    if line == b"infeasible".as_slice() {
+        return Ok(Kind::Infeasible);
+    }
+    if line == b"unbounded".as_slice() {
+        return Ok(Kind::Unbounded);
+    }
+    Err(Fault::Of(CertWhy::BadLine))
+}
+
+fn take_kind(lines: &mut Lines) -> Result<Kind, CertFault>
+    ensures { Finds (λ kind. (kind, lines.new)) result (kind_step lines.old) }
+{
+    let line = lines.whole()?;
+    lines.judged(kind_of(line))
+}
+
+fn take_point(alloc: Global, lines: &mut Lines) -> Result<CertPoint, CertFault>
+    ensures { Finds (λ point. (point, lines.new)) result (line_as point_at lines.old) }
+{
+    let line = lines.whole()?;
+    lines.judged(point_of(alloc, &mut Parts::of(line, b' ')))
+}
+
+fn take_value(lines: &mut Lines) -> Result<i128, CertFault>
+    ensures { Finds (λ z. (z, lines.new)) result (line_as value_at lines.old) }
+{
+    let line = lines.whole()?;
+    lines.judged(value_of(&mut Parts::of(line, b' ')))
+}
+
+fn take_piece(alloc: Global, lines: &mut Lines) -> Result<NoGood, CertFault>
+    ensures { Finds (λ piece. (piece, lines.new)) result (line_as piece_at lines.old) }
+{
+    let line = lines.whole()?;
+    lines.judged(piece_of(alloc, &mut Parts::of(line, b' ')))
+}
+
+fn take_ray(alloc: Global, lines: &mut Lines) -> Result<Sequence<(u32, i64)>, CertFault>
+    ensures { Finds (λ ray. (ray, lines.new)) result (line_as ray_at lines.old) }
+{
+    let line = lines.whole()?;
+    lines.judged(ray_of(alloc, &mut Parts::of(line, b' ')))
+}
+
+fn is_last(line: &[u8]) -> bool
+    ensures { result ≡ is_last line.now }
+{
+    match Parts::of(line, b' ').next() {
+        Some(word) => word == b"end".as_slice(),
+        None => false,
+    }
+}
+
+// A no-good line, or nothing for the last line, behind so many no-good lines.
+fn entry_of(alloc: Global, line: &[u8], count: u64) -> Result<Option<CertLine>, Fault>
+    ensures { Reads (λ entry. entry) result (entry_at count line.now) }
+{
+    let mut words = Parts::of(line, b' ');
+    if is_last(line) {
+        end_of(&mut words, count)?;
+        return Ok(None);
+    }
+    Ok(Some(line_of(alloc, &mut words)?))
+}
+
+fn take_log(alloc: Global, lines: &mut Lines) -> Result<Sequence<CertLine>, CertFault>
+    ensures { Finds (λ log. (log, lines.new)) result (log_step 0 lines.old) }
+{
+    let mut log = Sequence::new(alloc);
+    loop {
+        let line = lines.whole()?;
+        match lines.judged(entry_of(alloc, line, log.len() as u64))? {
+            Some(entry) => log.push(entry)?,
+            None => return Ok(log),
+        }
+    }
+}
+
+fn take_last(lines: &mut Lines) -> Result<u64, CertFault>
+    ensures { Finds (λ k. (k, lines.new)) result (last_step lines.old) }
+{
+    let line = lines.whole()?;
+    lines.judged(end_of(&mut Parts::of(line, b' '), 0))
+}
+
+fn optimal_of(alloc: Global, lines: &mut Lines) -> Result<Cert, CertFault>
+    ensures { Finds (λ cert. (cert, lines.new)) result (optimal_step lines.old) }
+{
+    let point = take_point(alloc, lines)?;
+    let z = take_value(lines)?;
+    let log = take_log(alloc, lines)?;
+    Ok(Cert::Optimal {
+        point,
+        z,
+        lines: log,
+    })
+}
+
+fn infeasible_of(alloc: Global, lines: &mut Lines) -> Result<Cert, CertFault>
+    ensures { Finds (λ cert. (cert, lines.new)) result (infeasible_step lines.old) }
+{
+    let log = take_log(alloc, lines)?;
+    Ok(Cert::Infeasible { lines: log })
+}
+
+fn unbounded_of(alloc: Global, lines: &mut Lines) -> Result<Cert, CertFault>
+    ensures { Finds (λ cert. (cert, lines.new)) result (unbounded_step lines.old) }
+{
+    let piece = take_piece(alloc, lines)?;
+    let point = take_point(alloc, lines)?;
+    let ray = take_ray(alloc, lines)?;
+    take_last(lines)?;
+    Ok(Cert::Unbounded { piece, point, ray })
+}
+
+fn cert_of_kind(alloc: Global, kind: Kind, lines: &mut Lines) -> Result<Cert, CertFault>
+    ensures { Finds (λ cert. (cert, lines.new)) result (step_of kind lines.old) }
+{
+    match kind {
+        Kind::Optimal => optimal_of(alloc, lines),
+        Kind::Infeasible => infeasible_of(alloc, lines),
+        Kind::Unbounded => unbounded_of(alloc, lines),
+    }
+}
+
+// No content stands behind the last line.
+fn take_nothing(lines: &mut Lines) -> Result<(), CertFault>
+    ensures { Finds (λ _. lines.old) result (behind_end lines.old) }
+{
+    let line = lines.next_number();
+    match lines.next() {
+        Next::Over => Ok(()),
+        Next::Whole(_) | Next::Cut => Err(CertFault::At {
+            line,
+            why: CertWhy::AfterEnd,
+        }),
+    }
+}
+
+fn cert_of(alloc: Global, lines: &mut Lines) -> Result<Cert, CertFault>
+    ensures { Finds (λ cert. cert) result (cert_at lines.old) }
+{
+    take_head(lines)?;
+    let kind = take_kind(lines)?;
+    let cert = cert_of_kind(alloc, kind, lines)?;
+    take_nothing(lines)?;
+    Ok(cert)
+}
 
 /// The certificate that a text spells, or the text's first fault. The time is linear in the text.
 pub fn read_cert(alloc: Global, text: &[u8]) -> Result<Cert, CertFault>
@@ -19,7 +202,5 @@ pub fn read_cert(alloc: Global, text: &[u8]) -> Result<Cert, CertFault>
     ensures fails { IfErr result (λ fault. FailsAs fault text.now) }
     ensures only_fails { (line : ℕ) (why : Why) → Fails text.now line why → Gives result (Err (line, why)) }
 {
-    let _ = text;
-    let _ = alloc;
-    Err(CertFault::NoMemory(AllocError))
+    cert_of(alloc, &mut Lines::of(text))
 }

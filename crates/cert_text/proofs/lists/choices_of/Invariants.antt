@@ -1,0 +1,10 @@
+use Rattle.std.proofs.Common.{◌≡◌, length}
+use Rattle.cert_text.specs.Reading.{choices_from}
+use Rattle.cert_text.proofs.Going.{onto_first}
+use Rattle.cert_text.proofs.lists.choices_of.Given as goal
+
+abbrev pub invariant-loop-word : goal.invariant-loop-word
+invariant-loop-word l = onto_first l.choices (choices_from l.least l.words) ≡ choices_from 0 l.fn.words
+
+abbrev pub decreases-loop-word : goal.decreases-loop-word
+decreases-loop-word l = length l.words

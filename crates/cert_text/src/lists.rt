@@ -1,0 +1,148 @@
+//! Lists of words: choices, terms and hints.
+ghost use Rattle.std.specs.Prelude.{◌≡◌, IfOk, IsTrue, bytes_eq};
+ghost use Rattle.nogoods.specs.Choices.{pairs_ascend};
+ghost use Rattle.cert_text.specs.Spelling.{colon};
+ghost use Rattle.cert_text.specs.Reading.{after, first_at, ended, choices_from, last_choices_from, terms_from, hints_at};
+ghost use Rattle.cert_text.specs.Steps.{Reads};
+
+use crate::CertWhy;
+use crate::parts::Parts;
+use crate::words::{Fault, choice_of, factor_of, hint_of, number_of};
+use lp_base::Sequence;
+use nogoods::{Choice, NoGood};
+use std::alloc::Global;
+
+/// Takes the first of the words that are left, which has to be this one.
+#[tactic(auto, unfolding(crate::specs::Reading::after))]
+pub fn take_word(words: &mut Parts, wanted: &[u8]) -> Result<(), Fault>
+    ensures { Reads (λ _. words.new) result (after wanted.now words.old) }
+{
+    match words.next() {
+        Some(word) if word == wanted => Ok(()),
+        _ => Err(Fault::Of(CertWhy::BadLine)),
+    }
+}
+
+/// Takes the first of the words that are left.
+#[tactic(auto, unfolding(crate::specs::Reading::first_at))]
+pub fn take_first<'a>(words: &mut Parts<'a>) -> Result<&'a [u8], Fault>
+    ensures { Reads (λ word. (word.now, words.new)) result (first_at words.old) }
+{
+    match words.next() {
+        Some(word) => Ok(word),
+        None => Err(Fault::Of(CertWhy::BadLine)),
+    }
+}
+
+/// No word is left.
+#[tactic(auto, unfolding(crate::specs::Reading::ended))]
+pub fn take_end(words: &mut Parts) -> Result<(), Fault>
+    ensures { Reads (λ _. words.new) result (ended words.old) }
+{
+    match words.next() {
+        Some(_) => Err(Fault::Of(CertWhy::BadLine)),
+        None => Ok(()),
+    }
+}
+
+fn is_colon(word: &[u8]) -> bool
+    ensures { result ≡ bytes_eq word.now colon }
+{
+    word == b":".as_slice()
+}
+
+fn choices_of(alloc: Global, words: &mut Parts) -> Result<Sequence<Choice>, Fault>
+    ensures { Reads (λ choices. (choices, words.new)) result (choices_from 0 words.old) }
+{
+    let mut choices = Sequence::new(alloc);
+    let mut least = 0;
+    while let Some(word) = words.next() {
+        if is_colon(word) {
+            return Ok(choices);
+        }
+        let choice = choice_of(word, least)?;
+        least = choice.pair + 1;
+        choices.push(choice)?;
+    }
+    Err(Fault::Of(CertWhy::BadLine))
+}
+
+// The no-good of choices that ascend.
+fn made(alloc: Global, choices: &[Choice]) -> Result<NoGood, Fault>
+    requires { IsTrue (pairs_ascend choices.now) }
+    ensures { IfOk result (λ ng. ng ≡ choices.now) }
+{
+    match NoGood::from_choices(alloc, choices)? {
+        Some(ng) => Ok(ng),
+        None => unreachable!(),
+    }
+}
+
+/// The choices of a line, up to its first colon.
+pub fn no_good_of(alloc: Global, words: &mut Parts) -> Result<NoGood, Fault>
+    ensures { Reads (λ ng. (ng, words.new)) result (choices_from 0 words.old) }
+{
+    let choices = choices_of(alloc, words)?;
+    made(alloc, choices.as_slice())
+}
+
+fn last_choices_of(alloc: Global, words: &mut Parts) -> Result<Sequence<Choice>, Fault>
+    ensures { Reads (λ choices. choices) result (last_choices_from 0 words.old) }
+{
+    let mut choices = Sequence::new(alloc);
+    let mut least = 0;
+    while let Some(word) = words.next() {
+        let choice = choice_of(word, least)?;
+        least = choice.pair + 1;
+        choices.push(choice)?;
+    }
+    Ok(choices)
+}
+
+/// The choices that are left on a line.
+pub fn last_no_good_of(alloc: Global, words: &mut Parts) -> Result<NoGood, Fault>
+    ensures { Reads (λ ng. ng) result (last_choices_from 0 words.old) }
+{
+    let choices = last_choices_of(alloc, words)?;
+    made(alloc, choices.as_slice())
+}
+
+fn each_term_of(alloc: Global, words: &mut Parts) -> Result<Sequence<(u32, i64)>, Fault>
+    ensures { Reads (λ terms. terms) result (terms_from 0 words.old) }
+{
+    let mut terms = Sequence::new(alloc);
+    let mut least = 0;
+    while let Some(word) = words.next() {
+        let number = number_of(word, least)?;
+        let factor = factor_of(take_first(words)?)?;
+        least = number + 1;
+        terms.push((number, factor))?;
+    }
+    Ok(terms)
+}
+
+/// The terms that are left on a line, their numbers ascending, in no more memory than they need.
+pub fn terms_of(alloc: Global, words: &mut Parts) -> Result<Sequence<(u32, i64)>, Fault>
+    ensures { Reads (λ terms. terms) result (terms_from 0 words.old) }
+{
+    let terms = each_term_of(alloc, words)?;
+    Ok(terms.copy(alloc)?)
+}
+
+fn each_hint_of(alloc: Global, words: &mut Parts) -> Result<Sequence<u64>, Fault>
+    ensures { Reads (λ hints. hints) result (hints_at words.old) }
+{
+    let mut hints = Sequence::new(alloc);
+    while let Some(word) = words.next() {
+        hints.push(hint_of(word)?)?;
+    }
+    Ok(hints)
+}
+
+/// The hints that are left on a line, in no more memory than they need.
+pub fn hints_of(alloc: Global, words: &mut Parts) -> Result<Sequence<u64>, Fault>
+    ensures { Reads (λ hints. hints) result (hints_at words.old) }
+{
+    let hints = each_hint_of(alloc, words)?;
+    Ok(hints.copy(alloc)?)
+}
