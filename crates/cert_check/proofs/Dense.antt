@@ -41,7 +41,7 @@ value_more numbers ts t i j none more within before = elim (cases_eq j t.0) [
       let there : (coefficient (take i ts) j +ℤ share t j) ≡ t.1 = rw (same, none, share_at t.0 t.1) (+ℤ_idl t.1) in
       here ∙ sym there ∙ sym more
   | inr other ↦
-      let there : (coefficient (take i ts) j +ℤ share t j) ≡ coefficient (take i ts) j = rw (share_other t.0 j t.1 (λ e. other (sym e))) (+ℤ_idr (coefficient (take i ts) j)) in
+      let there : (coefficient (take i ts) j +ℤ share t j) ≡ coefficient (take i ts) j = rw (share_other t.0 j t.1 other) (+ℤ_idr (coefficient (take i ts) j)) in
       get_or-set_other numbers t.0 j t.1 (pos 0) other ∙ before ∙ sym there ∙ sym more
 ]
 

@@ -13,7 +13,7 @@ use Rattle.lpcc_case.specs.Instance.{Instance}
 use Rattle.lpcc_case.specs.Points as points
 use Rattle.lpcc_case.specs.Points.{MeetsAll, IsComplementary, IsTightAt}
 use Rattle.lpcc_case.specs.Pieces.{NamesPairs}
-use Rattle.lpcc_case.specs.NarrowPoints.{AreNumbersOf, IsPointFor, IsPointOf, Means}
+use Rattle.lpcc_case.specs.NarrowPoints.{AreNumbersOf, IsPointFor, Means}
 use Rattle.lpcc_case.specs.declared.point.Point.{Point}
 use Rattle.cert_text.specs.declared.cert.CertPoint.{CertPoint}
 use Rattle.cert_text.specs.declared.cert.CertLine.{CertLine}
@@ -33,7 +33,7 @@ use Rattle.cert_check.proofs.Single.{from_first}
 means_from : (a : Instance) (line : CertPoint) (q : Point) → q.x ≡ numbers_of a.columns line.terms → q.d ≡ line.d → (p : points.Point a.columns) → GivesMet a line p → Means q p
 means_from a line q x d p gives = (gives.numbers ∙ sym x, gives.denominator ∙ sym d)
 
-pub point_of_line : (a : Instance) (line : CertPoint) (z : ℤ) (q : Point) (b : Bool) → IsPoint line → NamesColumns a line.terms → AreNumbersOf a q.x → q.x ≡ numbers_of a.columns line.terms → q.d ≡ line.d → q.z ≡ z
+point_of_line : (a : Instance) (line : CertPoint) (z : ℤ) (q : Point) (b : Bool) → IsPoint line → NamesColumns a line.terms → AreNumbersOf a q.x → q.x ≡ numbers_of a.columns line.terms → q.d ≡ line.d → q.z ≡ z
     → ((p : points.Point a.columns) → Means q p → (b ≡ true) ↔ MeetsAll a p) → b ≡ true → IsPointOfLine a line z q
 point_of_line a line z q b form named numbers x d value exact meets =
     let denominator = abs_of_positive line.d form.positive in
@@ -42,6 +42,14 @@ point_of_line a line z q b form named numbers x d value exact meets =
     let fits : IsPointFor a q = record { numbers = numbers; narrow = rw d form.narrow; positive = rw d form.positive } in
     let gives : GivesMet a line p = record { columns = named; numbers = x; denominator = denominator.0; met = (exact p means).0 meets } in
     record { fits = fits; given = (p, gives); means = means_from a line q x d; denominator = d; value = value }
+
+-- the same, where the terms were read as a list of their own
+pub point_read : (a : Instance) (line : CertPoint) (terms : List (ℕ × ℤ)) (z : ℤ) (q : Point) (b : Bool) → terms ≡ line.terms → IsPoint line → NamesColumns a terms → AreNumbersOf a q.x → q.x ≡ numbers_of a.columns terms → q.d ≡ line.d → q.z ≡ z
+    → ((p : points.Point a.columns) → Means q p → (b ≡ true) ↔ MeetsAll a p) → b ≡ true → IsPointOfLine a line z q
+point_read a line terms z q b read form named numbers x d value exact meets =
+    let P : List (ℕ × ℤ) → Type 0 = λ ts. NamesColumns a ts × (q.x ≡ numbers_of a.columns ts) in
+    let there = subst P read (named, x) in
+    point_of_line a line z q b form there.0 numbers there.1 d value exact meets
 
 pub no_point : (a : Instance) (line : CertPoint) (q : Point) (b : Bool) → q.x ≡ numbers_of a.columns line.terms → q.d ≡ line.d
     → ((p : points.Point a.columns) → Means q p → (b ≡ true) ↔ MeetsAll a p) → b ≡ false → (p : points.Point a.columns) → GivesMet a line p → ⊥
@@ -62,12 +70,11 @@ has a Asked line z q b m exact holds why (inr y) = y.3 ((exact y.1 (m.means y.1 
 numbers_are : (a : Instance) (line : CertPoint) (z : ℤ) (q : Point) → IsPointOfLine a line z q → q.x ≡ numbers_of a.columns line.terms
 numbers_are a line z q m = sym ((m.means m.given.0 m.given.1).0) ∙ m.given.1.numbers
 
-pub has_cost : (a : Instance) (line : CertPoint) (z : ℤ) (q : Point) → IsPointOfLine a line z q → IsPointOf a q → HasCost a line z
-has_cost a line z q m is = sym m.value ∙ is.cost ∙ ap (dot a.cost) (numbers_are a line z q m)
+pub right_cost : (a : Instance) (line : CertPoint) (z : ℤ) (q : Point) → IsPointOfLine a line z q → q.z ≡ dot a.cost q.x → HasCost a line z
+right_cost a line z q m cost = sym m.value ∙ cost ∙ ap (dot a.cost) (numbers_are a line z q m)
 
-pub no_cost : (a : Instance) (line : CertPoint) (z : ℤ) (q : Point) (b : Bool) → IsPointOfLine a line z q → (b ≡ true) ↔ IsPointOf a q → b ≡ false → HasCost a line z → ⊥
-no_cost a line z q b m exact fails cost =
-    both_ways b fails (exact.1 (record { fits = m.fits; cost = m.value ∙ cost ∙ ap (dot a.cost) (sym (numbers_are a line z q m)) }))
+pub wrong_cost : (a : Instance) (line : CertPoint) (z : ℤ) (q : Point) (b : Bool) → IsPointOfLine a line z q → (b ≡ true) ↔ (q.z ≡ dot a.cost q.x) → b ≡ false → HasCost a line z → ⊥
+wrong_cost a line z q b m exact fails cost = both_ways b fails (exact.1 (m.value ∙ cost ∙ ap (dot a.cost) (sym (numbers_are a line z q m))))
 
 -- ---- the first line that fails in a certificate of an optimum
 
@@ -152,3 +159,17 @@ whole_from a piece size each =
     let none : Choice = record { pair = 0; side = A } in
     counted (map (λ c. c.pair) piece) (length a.pairs) (length-map piece (λ c. c.pair) ∙ size)
     (λ k inside. get_or-map (λ (e : Choice). e.pair) piece k none ∙ each k none (omega (arith, inside, size)))
+
+-- what the tests of a piece find, which read the choices and the pairs as lists
+pub wrong_size : (a : Instance) (piece choices : List Choice) (pairs : List (ℕ × ℕ)) → choices ≡ piece → pairs ≡ a.pairs → (length choices ≡ length pairs → ⊥) → IsWholePiece a piece → ⊥
+wrong_size a piece choices pairs read there differ whole =
+    differ (ap length read ∙ whole_size a piece whole ∙ sym (ap length there))
+
+pub wrong_pair : (a : Instance) (piece choices : List Choice) (pairs : List (ℕ × ℕ)) (k : ℕ) (d : Choice) → choices ≡ piece → pairs ≡ a.pairs → length choices ≡ length pairs → k < length choices → ((get_or choices k d).pair ≡ k → ⊥) → IsWholePiece a piece → ⊥
+wrong_pair a piece choices pairs k d read there size inside differ whole =
+    let within : k < length a.pairs = omega (arith, inside, size, ap length there) in
+    differ (ap (λ cs. (get_or cs k d).pair) read ∙ whole_at a piece k d whole within)
+
+pub right_pairs : (a : Instance) (piece choices : List Choice) (pairs : List (ℕ × ℕ)) (n : ℕ) → choices ≡ piece → pairs ≡ a.pairs → length choices ≡ length pairs → length choices ≤ n → ((k : ℕ) (d : Choice) → k < n → (get_or choices k d).pair ≡ k) → IsWholePiece a piece
+right_pairs a piece choices pairs n read there size all each =
+    subst (IsWholePiece a) read (whole_from a choices (size ∙ ap length there) (λ k d inside. each k d (omega (arith, inside, all))))

@@ -8,3 +8,4 @@ pub mod Dense
 pub mod Forms
 pub mod Endings
 pub mod Judged
+pub mod Answering

@@ -9,9 +9,9 @@ ghost use Rattle.cert_check.specs.Answers.{GivesVerdict, GivesRefusal};
 ghost use Rattle.cert_check.specs.Results.{NamesFirst};
 
 use crate::lines::judge_lines;
-use crate::point_line::{is_whole, met_point, ray_passes};
+use crate::point_line::{has_cost, is_whole, met_point, ray_passes};
 use cert_text::{Cert, CertLine, CertPoint};
-use lpcc_case::{Case, Point, Verdict, is_complementary, is_of, is_tight_at, value_of};
+use lpcc_case::{Case, Point, Verdict, is_complementary, is_tight_at, value_of};
 use nogoods::NoGood;
 use std::alloc::{AllocError, Global};
 use thiserror::Error;
@@ -86,7 +86,7 @@ fn judge_optimal(
             why: NoWhy::NotComplementary,
         });
     }
-    if !is_of(case, &point) {
+    if !has_cost(case, &point) {
         return Err(CheckFault::No {
             line: 4,
             why: NoWhy::ValueFails,

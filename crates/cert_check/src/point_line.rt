@@ -1,8 +1,8 @@
 //! The points and rays of a certificate, given by the columns that are not zero.
 ghost use Rattle.std.specs.Prelude.{◌≡◌, ◌↔◌, ◌≤ℤ◌, All, IfNone, IfOk, IfSome, IsTrue, length, map, pos};
 ghost use Rattle.std.specs.List.{range_with_len};
-ghost use Rattle.lp_base.specs.Numbers.{IsNarrow};
-ghost use Rattle.lpcc_case.specs.NarrowPoints.{AreNumbersOf};
+ghost use Rattle.lp_base.specs.Sums.{dot};
+ghost use Rattle.lpcc_case.specs.NarrowPoints.{AreNumbersOf, IsPointFor};
 ghost use Rattle.lpcc_case.specs.Points as points;
 ghost use Rattle.cert_text.specs.Certs.{AreTerms, IsPoint};
 ghost use Rattle.cert_check.specs.Acceptance.{GivesMet, IsWholePiece, NamesColumns, RayPasses, numbers_of};
@@ -10,7 +10,7 @@ ghost use Rattle.cert_check.specs.Results.{IsPointOfLine};
 
 use cert_text::CertPoint;
 use lp_base::Sequence;
-use lpcc_case::{Case, Point, Ray, meets, recedes};
+use lpcc_case::{Case, Point, Ray, is_of, meets, recedes};
 use nogoods::NoGood;
 use std::alloc::{AllocError, Global};
 
@@ -60,6 +60,14 @@ pub(crate) fn met_point(
         return Ok(None);
     }
     Ok(Some(point))
+}
+
+/// Whether the point's `z` is the sum of the costs times its numbers.
+pub(crate) fn has_cost(case: &Case, point: &Point) -> bool
+    requires { IsPointFor case.now point.now }
+    ensures { IsTrue result ↔ (point.now.z ≡ dot case.now.cost point.now.x) }
+{
+    is_of(case, point)
 }
 
 /// Whether there is one choice for each pair.
