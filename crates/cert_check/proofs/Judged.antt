@@ -55,6 +55,10 @@ pub no_point : (a : Instance) (line : CertPoint) (q : Point) (b : Bool) → q.x 
     → ((p : points.Point a.columns) → Means q p → (b ≡ true) ↔ MeetsAll a p) → b ≡ false → (p : points.Point a.columns) → GivesMet a line p → ⊥
 no_point a line q b x d exact fails p gives = both_ways b fails ((exact p (means_from a line q x d p gives)).1 gives.met)
 
+-- the same, for a z that was read again
+pub line_point : (a : Instance) (line : CertPoint) (z : ℤ) (q : Point) {again : ℤ} → again ≡ z → IsPointOfLine a line again q → IsPointOfLine a line z q
+line_point a line z q same m = subst (λ y. IsPointOfLine a line y q) same m
+
 -- ---- what is asked of a point besides
 
 pub lacks : (a : Instance) (Asked : points.Point a.columns → Type 0) (line : CertPoint) (z : ℤ) (q : Point) (b : Bool) → IsPointOfLine a line z q

@@ -3,7 +3,7 @@ use Rattle.cert_check.proofs.accept.check.Goals as goal
 
 pub returns-clause-only_accepted : goal.returns-clause-only_accepted
 returns-clause-only_accepted c v h =
-    gives_verdict c.args.case.now c.args.cert.now c.judge.result v c.pairs-_pairs.ensures.kept.scale_positive c.judge.ensures.accepted c.judge.ensures.refused h
+    gives_verdict c.args.case.now c.args.cert.now c.judge.result v c.pairs-pairs.ensures.kept.scale_positive c.judge.ensures.accepted c.judge.ensures.refused h
 
 pub returns-clause-only_refused : goal.returns-clause-only_refused
 returns-clause-only_refused c line why h = gives_refusal c.args.case.now c.args.cert.now c.judge.result line why c.judge.ensures.accepted c.judge.ensures.refused h
