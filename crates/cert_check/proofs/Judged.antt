@@ -1,5 +1,5 @@
 -- What the tests of single lines say of the first line that fails.
-use Rattle.std.proofs.Common.{ℕ, ◌+◌, ◌<◌, ◌≤◌, ◌≡◌, refl, sym, ap, ◌∙◌, subst, arith, ℤ, pos, ◌≤ℤ◌, Bool, true, false, List, length, get_or, inl, inr, map, Some}
+use Rattle.std.proofs.Common.{ℕ, ◌+◌, ◌<◌, ◌≤◌, ◌≡◌, refl, sym, ap, ◌∙◌, subst, arith, ℤ, pos, ◌≤ℤ◌, Bool, true, false, List, length, get_or, inl, inr, map, Option, Some, None}
 use Rattle.std.specs.Prelude.{◌↔◌, All, unsigned_abs}
 use Rattle.std.specs.List.{range_with_len}
 use Rattle.std.proofs.lemmas.Bool.{both_ways}
@@ -15,6 +15,11 @@ use Rattle.lpcc_case.specs.Points.{MeetsAll, IsComplementary, IsTightAt}
 use Rattle.lpcc_case.specs.Pieces.{NamesPairs}
 use Rattle.lpcc_case.specs.NarrowPoints.{AreNumbersOf, IsPointFor, Means}
 use Rattle.lpcc_case.specs.declared.point.Point.{Point}
+use Rattle.lpcc_case.specs.Values.{IsValue}
+use Rattle.lpcc_case.specs.declared.verdict.Verdict.TheVariants as verdict
+use Rattle.lp_nums.specs.Fractions.{Fraction}
+use Rattle.cert_text.specs.declared.cert.Cert.{Cert}
+use Rattle.cert_text.specs.declared.cert.Cert.TheVariants.{Optimal, Infeasible, Unbounded}
 use Rattle.cert_text.specs.declared.cert.CertPoint.{CertPoint}
 use Rattle.cert_text.specs.declared.cert.CertLine.{CertLine}
 use Rattle.cert_text.specs.Certs.{IsPoint}
@@ -22,7 +27,7 @@ use Rattle.cert_check.specs.declared.accept.NoWhy.{NoWhy}
 use Rattle.cert_check.specs.declared.accept.NoWhy.TheVariants.{PointFails, NotComplementary, ValueFails, RayFails}
 use Rattle.cert_check.specs.declared.accept.CheckFault.{CheckFault}
 use Rattle.cert_check.specs.declared.accept.CheckFault.TheVariants.{No, NoMemory}
-use Rattle.cert_check.specs.Acceptance.{GivesMet, HasCost, IsWholePiece, NamesColumns, NoGoodsFail, OptimalFails, PointLineFails, RayPasses, UnboundedFails, numbers_of}
+use Rattle.cert_check.specs.Acceptance.{Accepts, GivesMet, HasCost, IsWholePiece, LineFails, NamesColumns, NoGoodsFail, PointLineFails, RayPasses, Refuses, RefusesAs, numbers_of}
 use Rattle.cert_check.specs.Results.{IsPointOfLine, NamesFirst}
 use Rattle.cert_check.proofs.PointLines.{PointLinePasses, abs_of_positive}
 use Rattle.cert_check.proofs.Following.{whole_size, whole_at}
@@ -82,68 +87,88 @@ wrong_cost a line z q b m exact fails cost = both_ways b fails (exact.1 (m.value
 
 -- ---- the first line that fails in a certificate of an optimum
 
--- it fails, and none before it
-abbrev pub IsFirst : (ℕ → NoWhy → Type 0) → ℕ → NoWhy → Type 0
-IsFirst Fails n why = Fails n why × ((m : ℕ) (other : NoWhy) → m < n → Fails m other → ⊥)
-
-optimal_from : (a : Instance) (line : CertPoint) (z : ℤ) (lines : List CertLine) (n : ℕ) (why : NoWhy) → OptimalFails a line z lines n why → n < 3 → ⊥
+optimal_from : (a : Instance) (line : CertPoint) (z : ℤ) (lines : List CertLine) (n : ℕ) (why : NoWhy) → LineFails a (Optimal line z lines) n why → n < 3 → ⊥
 optimal_from a line z lines n why (inl x) before = omega (arith, x.0, before)
 optimal_from a line z lines n why (inr (inl x)) before = omega (arith, x.0, before)
 optimal_from a line z lines n why (inr (inr x)) before = from_first a (Some (z, line.d)) lines 5 n why x (omega (arith, before))
 
-pub optimal_point_first : (a : Instance) (line : CertPoint) (z : ℤ) (lines : List CertLine) (why : NoWhy) → PointLineFails a (IsComplementary a) line why → IsFirst (OptimalFails a line z lines) 3 why
-optimal_point_first a line z lines why fails = (inl (refl, fails), λ m other before f. optimal_from a line z lines m other f before)
+pub optimal_point_first : (a : Instance) (line : CertPoint) (z : ℤ) (lines : List CertLine) (why : NoWhy) → PointLineFails a (IsComplementary a) line why → Refuses a (Optimal line z lines) 3 why
+optimal_point_first a line z lines why fails = record { fails = inl (refl, fails); first = λ m other before f. optimal_from a line z lines m other f before }
 
-optimal_point_passed : (a : Instance) (line : CertPoint) (z : ℤ) (lines : List CertLine) (n : ℕ) (why : NoWhy) → PointLinePasses a (IsComplementary a) line → OptimalFails a line z lines n why → n < 4 → ⊥
+optimal_point_passed : (a : Instance) (line : CertPoint) (z : ℤ) (lines : List CertLine) (n : ℕ) (why : NoWhy) → PointLinePasses a (IsComplementary a) line → LineFails a (Optimal line z lines) n why → n < 4 → ⊥
 optimal_point_passed a line z lines n why passes (inl x) before = passes why x.1
 optimal_point_passed a line z lines n why passes (inr (inl x)) before = omega (arith, x.0, before)
 optimal_point_passed a line z lines n why passes (inr (inr x)) before = from_first a (Some (z, line.d)) lines 5 n why x (omega (arith, before))
 
-pub optimal_value_first : (a : Instance) (line : CertPoint) (z : ℤ) (lines : List CertLine) → PointLinePasses a (IsComplementary a) line → (HasCost a line z → ⊥) → IsFirst (OptimalFails a line z lines) 4 ValueFails
-optimal_value_first a line z lines passes fails = (inr (inl (refl, refl, fails)), λ m other before f. optimal_point_passed a line z lines m other passes f before)
+pub optimal_value_first : (a : Instance) (line : CertPoint) (z : ℤ) (lines : List CertLine) → PointLinePasses a (IsComplementary a) line → (HasCost a line z → ⊥) → Refuses a (Optimal line z lines) 4 ValueFails
+optimal_value_first a line z lines passes fails =
+    record { fails = inr (inl (refl, refl, fails)); first = λ m other before f. optimal_point_passed a line z lines m other passes f before }
 
 -- a line that fails is one of the no-good lines
-optimal_rest : (a : Instance) (line : CertPoint) (z : ℤ) (lines : List CertLine) (n : ℕ) (why : NoWhy) → PointLinePasses a (IsComplementary a) line → HasCost a line z → OptimalFails a line z lines n why → NoGoodsFail a (Some (z, line.d)) lines 5 n why
+optimal_rest : (a : Instance) (line : CertPoint) (z : ℤ) (lines : List CertLine) (n : ℕ) (why : NoWhy) → PointLinePasses a (IsComplementary a) line → HasCost a line z → LineFails a (Optimal line z lines) n why → NoGoodsFail a (Some (z, line.d)) lines 5 n why
 optimal_rest a line z lines n why passes cost (inl x) = absurd (passes why x.1)
 optimal_rest a line z lines n why passes cost (inr (inl x)) = absurd (x.2 cost)
 optimal_rest a line z lines n why passes cost (inr (inr x)) = x
 
-pub optimal_lines_first : (a : Instance) (line : CertPoint) (z : ℤ) (lines : List CertLine) (fault : CheckFault) → PointLinePasses a (IsComplementary a) line → HasCost a line z → NamesFirst (NoGoodsFail a (Some (z, line.d)) lines 5) fault → NamesFirst (OptimalFails a line z lines) fault
-optimal_lines_first a line z lines (No n why) passes cost first = (inr (inr first.0), λ m other before f. first.1 m other before (optimal_rest a line z lines m other passes cost f))
-optimal_lines_first a line z lines (NoMemory error) passes cost first = tt
+-- the value, read again
+pub value_again : (z d : ℤ) {y e : ℤ} → y ≡ z → e ≡ d → ◌≡◌ {A = Option (ℤ × ℤ)} (Some (y, e)) (Some (z, d))
+value_again z d same_z same_d = rw (same_z, same_d) refl
 
-pub optimal_none : (a : Instance) (line : CertPoint) (z : ℤ) (lines : List CertLine) → PointLinePasses a (IsComplementary a) line → HasCost a line z → ((n : ℕ) (why : NoWhy) → NoGoodsFail a (Some (z, line.d)) lines 5 n why → ⊥) → (n : ℕ) (why : NoWhy) → OptimalFails a line z lines n why → ⊥
-optimal_none a line z lines passes cost none n why f = none n why (optimal_rest a line z lines n why passes cost f)
+pub optimal_lines_first : (a : Instance) (line : CertPoint) (z : ℤ) (lines : List CertLine) (fault : CheckFault) {value : Option (ℤ × ℤ)} → PointLinePasses a (IsComplementary a) line → HasCost a line z → value ≡ Some (z, line.d) → NamesFirst (NoGoodsFail a value lines 5) fault → RefusesAs a (Optimal line z lines) fault
+optimal_lines_first a line z lines (No n why) passes cost same first =
+    let here = subst (λ v. NamesFirst (NoGoodsFail a v lines 5) (No n why)) same first in
+    record { fails = inr (inr here.0); first = λ m other before f. here.1 m other before (optimal_rest a line z lines m other passes cost f) }
+optimal_lines_first a line z lines (NoMemory error) passes cost same first = tt
 
--- ---- and in a certificate that the cost falls without end
+pub optimal_accepted : (a : Instance) (line : CertPoint) (z : ℤ) (lines : List CertLine) (f : Fraction) (y d : ℤ) {value : Option (ℤ × ℤ)} → PointLinePasses a (IsComplementary a) line → HasCost a line z → value ≡ Some (z, line.d) → ((n : ℕ) (why : NoWhy) → NoGoodsFail a value lines 5 n why → ⊥) → y ≡ z → d ≡ line.d → IsValue a y d f → Accepts a (Optimal line z lines) (verdict.Optimal f)
+optimal_accepted a line z lines f y d passes cost same none same_z same_d is =
+    let P : Option (ℤ × ℤ) → Type 0 = λ v. (n : ℕ) (why : NoWhy) → NoGoodsFail a v lines 5 n why → ⊥ in
+    record {
+      passes = λ n why fails. subst P same none n why (optimal_rest a line z lines n why passes cost fails);
+      claims = rw (← same_z, ← same_d) is;
+    }
 
-unbounded_from : (a : Instance) (piece : List Choice) (line : CertPoint) (ray : List (ℕ × ℤ)) (n : ℕ) (why : NoWhy) → UnboundedFails a piece line ray n why → n < 3 → ⊥
+-- ---- in one that no point is feasible
+
+pub infeasible_first : (a : Instance) (lines : List CertLine) (fault : CheckFault) → NamesFirst (NoGoodsFail a None lines 3) fault → RefusesAs a (Infeasible lines) fault
+infeasible_first a lines (No n why) first = record { fails = first.0; first = first.1 }
+infeasible_first a lines (NoMemory error) first = tt
+
+pub infeasible_accepted : (a : Instance) (lines : List CertLine) → ((n : ℕ) (why : NoWhy) → NoGoodsFail a None lines 3 n why → ⊥) → Accepts a (Infeasible lines) verdict.Infeasible
+infeasible_accepted a lines none = record { passes = none; claims = tt }
+
+-- ---- and in one that the cost falls without end
+
+unbounded_from : (a : Instance) (piece : List Choice) (line : CertPoint) (ray : List (ℕ × ℤ)) (n : ℕ) (why : NoWhy) → LineFails a (Unbounded piece line ray) n why → n < 3 → ⊥
 unbounded_from a piece line ray n why (inl x) before = omega (arith, x.0, before)
 unbounded_from a piece line ray n why (inr (inl x)) before = omega (arith, x.0, before)
 unbounded_from a piece line ray n why (inr (inr x)) before = omega (arith, x.0, before)
 
-pub piece_first : (a : Instance) (piece : List Choice) (line : CertPoint) (ray : List (ℕ × ℤ)) → (IsWholePiece a piece → ⊥) → IsFirst (UnboundedFails a piece line ray) 3 NotComplementary
-piece_first a piece line ray fails = (inl (refl, refl, fails), λ m other before f. unbounded_from a piece line ray m other f before)
+pub piece_first : (a : Instance) (piece : List Choice) (line : CertPoint) (ray : List (ℕ × ℤ)) → (IsWholePiece a piece → ⊥) → Refuses a (Unbounded piece line ray) 3 NotComplementary
+piece_first a piece line ray fails = record { fails = inl (refl, refl, fails); first = λ m other before f. unbounded_from a piece line ray m other f before }
 
-piece_passed : (a : Instance) (piece : List Choice) (line : CertPoint) (ray : List (ℕ × ℤ)) (n : ℕ) (why : NoWhy) → IsWholePiece a piece → UnboundedFails a piece line ray n why → n < 4 → ⊥
+piece_passed : (a : Instance) (piece : List Choice) (line : CertPoint) (ray : List (ℕ × ℤ)) (n : ℕ) (why : NoWhy) → IsWholePiece a piece → LineFails a (Unbounded piece line ray) n why → n < 4 → ⊥
 piece_passed a piece line ray n why whole (inl x) before = x.2 whole
 piece_passed a piece line ray n why whole (inr (inl x)) before = omega (arith, x.0, before)
 piece_passed a piece line ray n why whole (inr (inr x)) before = omega (arith, x.0, before)
 
-pub unbounded_point_first : (a : Instance) (piece : List Choice) (line : CertPoint) (ray : List (ℕ × ℤ)) (why : NoWhy) → IsWholePiece a piece → PointLineFails a (λ p. IsTightAt a p piece) line why → IsFirst (UnboundedFails a piece line ray) 4 why
-unbounded_point_first a piece line ray why whole fails = (inr (inl (refl, fails)), λ m other before f. piece_passed a piece line ray m other whole f before)
+pub unbounded_point_first : (a : Instance) (piece : List Choice) (line : CertPoint) (ray : List (ℕ × ℤ)) (why : NoWhy) → IsWholePiece a piece → PointLineFails a (λ p. IsTightAt a p piece) line why → Refuses a (Unbounded piece line ray) 4 why
+unbounded_point_first a piece line ray why whole fails =
+    record { fails = inr (inl (refl, fails)); first = λ m other before f. piece_passed a piece line ray m other whole f before }
 
-unbounded_rest : (a : Instance) (piece : List Choice) (line : CertPoint) (ray : List (ℕ × ℤ)) (n : ℕ) (why : NoWhy) → IsWholePiece a piece → PointLinePasses a (λ p. IsTightAt a p piece) line → UnboundedFails a piece line ray n why → (n ≡ 5) × (RayPasses a piece ray → ⊥)
+unbounded_rest : (a : Instance) (piece : List Choice) (line : CertPoint) (ray : List (ℕ × ℤ)) (n : ℕ) (why : NoWhy) → IsWholePiece a piece → PointLinePasses a (λ p. IsTightAt a p piece) line → LineFails a (Unbounded piece line ray) n why → (n ≡ 5) × (RayPasses a piece ray → ⊥)
 unbounded_rest a piece line ray n why whole passes (inl x) = absurd (x.2 whole)
 unbounded_rest a piece line ray n why whole passes (inr (inl x)) = absurd (passes why x.1)
 unbounded_rest a piece line ray n why whole passes (inr (inr x)) = (x.0, x.2)
 
-pub ray_first : (a : Instance) (piece : List Choice) (line : CertPoint) (ray : List (ℕ × ℤ)) → IsWholePiece a piece → PointLinePasses a (λ p. IsTightAt a p piece) line → (RayPasses a piece ray → ⊥) → IsFirst (UnboundedFails a piece line ray) 5 RayFails
-ray_first a piece line ray whole passes fails =
-    (inr (inr (refl, refl, fails)), λ m other before f. let rest = unbounded_rest a piece line ray m other whole passes f in omega (arith, rest.0, before))
+pub ray_first : (a : Instance) (piece : List Choice) (line : CertPoint) (ray : List (ℕ × ℤ)) → IsWholePiece a piece → PointLinePasses a (λ p. IsTightAt a p piece) line → (RayPasses a piece ray → ⊥) → Refuses a (Unbounded piece line ray) 5 RayFails
+ray_first a piece line ray whole passes fails = record {
+  fails = inr (inr (refl, refl, fails));
+  first = λ m other before f. let rest = unbounded_rest a piece line ray m other whole passes f in omega (arith, rest.0, before);
+}
 
-pub unbounded_none : (a : Instance) (piece : List Choice) (line : CertPoint) (ray : List (ℕ × ℤ)) → IsWholePiece a piece → PointLinePasses a (λ p. IsTightAt a p piece) line → RayPasses a piece ray → (n : ℕ) (why : NoWhy) → UnboundedFails a piece line ray n why → ⊥
-unbounded_none a piece line ray whole passes goes n why f = (unbounded_rest a piece line ray n why whole passes f).1 goes
+pub unbounded_accepted : (a : Instance) (piece : List Choice) (line : CertPoint) (ray : List (ℕ × ℤ)) → IsWholePiece a piece → PointLinePasses a (λ p. IsTightAt a p piece) line → RayPasses a piece ray → Accepts a (Unbounded piece line ray) verdict.Unbounded
+unbounded_accepted a piece line ray whole passes goes = record { passes = λ n why f. (unbounded_rest a piece line ray n why whole passes f).1 goes; claims = tt }
 
 -- ---- pieces
 

@@ -18,7 +18,7 @@ use Rattle.cert_text.specs.declared.cert.CertLine.{CertLine}
 use Rattle.cert_text.specs.declared.cert.CertLine.TheVariants.{Ray, Point as PointCut, Derived}
 use Rattle.cert_text.specs.Certs.{no_good_of}
 use Rattle.cert_check.specs.declared.accept.NoWhy.{NoWhy}
-use Rattle.cert_check.specs.Acceptance.{Accepts, LineFails, NoGoodFails, NoGoodsFail, OptimalFails, PointCutFails, PointLineFails, Refuses, UnboundedFails}
+use Rattle.cert_check.specs.Acceptance.{Accepts, LineFails, NoGoodFails, NoGoodsFail, PointCutFails, PointLineFails, Refuses}
 use Rattle.cert_check.proofs.Truth.{accepted_true}
 
 -- ---- one reason for each line
@@ -63,7 +63,7 @@ pub from_first : (a : Instance) (value : Option (ℤ × ℤ)) (lines : List Cert
 from_first a value lines first n v (inl x) before = omega (arith, x.3, before)
 from_first a value lines first n v (inr x) before = omega (arith, x.0, before)
 
-optimal_one : (a : Instance) (point : CertPoint) (z : ℤ) (lines : List CertLine) (n : ℕ) (v w : NoWhy) → OptimalFails a point z lines n v → OptimalFails a point z lines n w → v ≡ w
+optimal_one : (a : Instance) (point : CertPoint) (z : ℤ) (lines : List CertLine) (n : ℕ) (v w : NoWhy) → LineFails a (Optimal point z lines) n v → LineFails a (Optimal point z lines) n w → v ≡ w
 optimal_one a point z lines n v w (inl x) (inl y) = point_line_one a _ point v w x.1 y.1
 optimal_one a point z lines n v w (inl x) (inr (inl y)) = absurd (omega (arith, x.0, y.0))
 optimal_one a point z lines n v w (inl x) (inr (inr y)) = absurd (from_first a (Some (z, point.d)) lines 5 n w y (omega (arith, x.0)))
@@ -74,7 +74,7 @@ optimal_one a point z lines n v w (inr (inr x)) (inl y) = absurd (from_first a (
 optimal_one a point z lines n v w (inr (inr x)) (inr (inl y)) = absurd (from_first a (Some (z, point.d)) lines 5 n v x (omega (arith, y.0)))
 optimal_one a point z lines n v w (inr (inr x)) (inr (inr y)) = no_goods_one a (Some (z, point.d)) lines 5 n v w x y
 
-unbounded_one : (a : Instance) (piece : List Choice) (point : CertPoint) (ray : List (ℕ × ℤ)) (n : ℕ) (v w : NoWhy) → UnboundedFails a piece point ray n v → UnboundedFails a piece point ray n w → v ≡ w
+unbounded_one : (a : Instance) (piece : List Choice) (point : CertPoint) (ray : List (ℕ × ℤ)) (n : ℕ) (v w : NoWhy) → LineFails a (Unbounded piece point ray) n v → LineFails a (Unbounded piece point ray) n w → v ≡ w
 unbounded_one a piece point ray n v w (inl x) (inl y) = x.1 ∙ sym y.1
 unbounded_one a piece point ray n v w (inl x) (inr (inl y)) = absurd (omega (arith, x.0, y.0))
 unbounded_one a piece point ray n v w (inl x) (inr (inr y)) = absurd (omega (arith, x.0, y.0))

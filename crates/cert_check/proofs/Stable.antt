@@ -48,9 +48,9 @@ either_stable : (a b c d : ℤ) → Holds ((a ≡ b) ⊎ (c ≡ d)) → (a ≡ b
 either_stable a b c d h = elim (same_or_not a b) [
   | inl first ↦ inl first
   | inr differ ↦ inr (same_stable c d (λ never. h (λ one. elim one [
-        | inl first ↦ differ first
-        | inr second ↦ never second
-      ])))
+    | inl first ↦ differ first
+    | inr second ↦ never second
+  ])))
 ]
 
 pub complementary_stable : (a : Instance) (p : Point a.columns) → Holds (IsComplementary a p) → IsComplementary a p
@@ -67,9 +67,9 @@ numbers_same_or_not [] (y ∷ ys) = inr (λ e. absurd (cc))
 numbers_same_or_not (x ∷ xs) [] = inr (λ e. absurd (cc))
 numbers_same_or_not (x ∷ xs) (y ∷ ys) = elim (cases_eq x y) [
   | inl head ↦ elim (numbers_same_or_not xs ys) [
-      | inl tail ↦ inl (ap (λ z. z ∷ xs) head ∙ ap (λ zs. y ∷ zs) tail)
-      | inr differ ↦ inr (λ e. differ (cc))
-    ]
+    | inl tail ↦ inl (ap (λ z. z ∷ xs) head ∙ ap (λ zs. y ∷ zs) tail)
+    | inr differ ↦ inr (λ e. differ (cc))
+  ]
   | inr differ ↦ inr (λ e. differ (cc))
 ]
 

@@ -96,23 +96,17 @@ NoGoodsFail a value lines first n why =
 
 -- ---- the certificate
 
-abbrev pub OptimalFails : Instance → CertPoint → ℤ → List CertLine → ℕ → NoWhy → Type 0
-OptimalFails a point z lines n why =
+-- the content line of this number fails, for this reason
+abbrev pub LineFails : Instance → Cert → ℕ → NoWhy → Type 0
+LineFails a (Optimal point z lines) n why =
     ((n ≡ 3) × PointLineFails a (IsComplementary a) point why)
     ⊎ ((n ≡ 4) × (why ≡ ValueFails) × (HasCost a point z → ⊥))
     ⊎ NoGoodsFail a (Some (z, point.d)) lines 5 n why
-
-abbrev pub UnboundedFails : Instance → List Choice → CertPoint → List (ℕ × ℤ) → ℕ → NoWhy → Type 0
-UnboundedFails a piece point ray n why =
+LineFails a (Infeasible lines) n why = NoGoodsFail a None lines 3 n why
+LineFails a (Unbounded piece point ray) n why =
     ((n ≡ 3) × (why ≡ NotComplementary) × (IsWholePiece a piece → ⊥))
     ⊎ ((n ≡ 4) × PointLineFails a (λ p. IsTightAt a p piece) point why)
     ⊎ ((n ≡ 5) × (why ≡ RayFails) × (RayPasses a piece ray → ⊥))
-
--- the content line of this number fails, for this reason
-abbrev pub LineFails : Instance → Cert → ℕ → NoWhy → Type 0
-LineFails a (Optimal point z lines) n why = OptimalFails a point z lines n why
-LineFails a (Infeasible lines) n why = NoGoodsFail a None lines 3 n why
-LineFails a (Unbounded piece point ray) n why = UnboundedFails a piece point ray n why
 
 -- the first line that fails
 pub record Refuses (a : Instance) (cert : Cert) (n : ℕ) (why : NoWhy) : Type 0 where

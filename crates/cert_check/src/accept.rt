@@ -1,17 +1,16 @@
 //! Acceptance of a certificate for a case.
-ghost use Rattle.std.specs.Prelude.{◌≡◌, All, IfErr, IfOk, ℕ};
+ghost use Rattle.std.specs.Prelude.{◌≤◌, ◌^◌, All, IfErr, IfOk, unsigned_abs, ℕ};
 ghost use Rattle.lpcc_case.specs.Verdicts.{IsTrueOf};
 ghost use Rattle.lpcc_case.specs.declared.verdict.Verdict.{Verdict as Claim};
 ghost use Rattle.cert_text.specs.Certs.{AreTerms, IsLine, IsPoint, KeepsForm};
 ghost use Rattle.cert_check.specs.declared.accept.NoWhy.{NoWhy as Reason};
-ghost use Rattle.cert_check.specs.Acceptance.{Accepts, OptimalFails, Refuses, RefusesAs, UnboundedFails};
+ghost use Rattle.cert_check.specs.Acceptance.{Accepts, Refuses, RefusesAs};
 ghost use Rattle.cert_check.specs.Answers.{GivesVerdict, GivesRefusal};
-ghost use Rattle.cert_check.specs.Results.{NamesFirst};
 
 use crate::lines::judge_lines;
 use crate::point_line::{has_cost, is_whole, met_point, ray_passes};
 use cert_text::{Cert, CertLine, CertPoint};
-use lpcc_case::{Case, Point, Verdict, is_complementary, is_tight_at, value_of};
+use lpcc_case::{Case, Verdict, is_complementary, is_tight_at, value_of};
 use nogoods::NoGood;
 use std::alloc::{AllocError, Global};
 use thiserror::Error;
@@ -60,19 +59,19 @@ impl From<AllocError> for CheckFault {
     }
 }
 
-/// Judges a certificate of an optimum, and gives its point.
+/// Judges a certificate of an optimum.
 fn judge_optimal(
     alloc: Global,
     case: &Case,
     line: &CertPoint,
     z: i128,
     lines: &[CertLine],
-) -> Result<Point, CheckFault>
+) -> Result<Verdict, CheckFault>
     requires point { IsPoint line.now }
+    requires room { unsigned_abs z ≤ 2 ^ 126 }
     requires form { All IsLine lines.now }
-    ensures passed { IfOk result (λ point. (n : ℕ) (why : Reason) → OptimalFails case.now line.now z lines.now n why → ⊥) }
-    ensures value { IfOk result (λ point. (point.z ≡ z) × (point.d ≡ line.now.d)) }
-    ensures refused { IfErr result (NamesFirst (OptimalFails case.now line.now z lines.now)) }
+    ensures accepted { IfOk result (Accepts case.now (Cert.Optimal line.now z lines.now)) }
+    ensures refused { IfErr result (RefusesAs case.now (Cert.Optimal line.now z lines.now)) }
 {
     let Some(point) = met_point(alloc, case, line, z)? else {
         return Err(CheckFault::No {
@@ -92,8 +91,22 @@ fn judge_optimal(
             why: NoWhy::ValueFails,
         });
     }
-    judge_lines(case, Some((z, line.d)), lines, 5)?;
-    Ok(point)
+    match judge_lines(case, Some((z, line.d)), lines, 5) {
+        Ok(()) => Ok(Verdict::Optimal(value_of(case, &point))),
+        Err(fault) => Err(fault),
+    }
+}
+
+/// Judges a certificate that no point is feasible. It takes no memory.
+fn judge_infeasible(case: &Case, lines: &[CertLine]) -> Result<Verdict, CheckFault>
+    requires { All IsLine lines.now }
+    ensures accepted { IfOk result (Accepts case.now (Cert.Infeasible lines.now)) }
+    ensures refused { IfErr result (RefusesAs case.now (Cert.Infeasible lines.now)) }
+{
+    match judge_lines(case, None, lines, 3) {
+        Ok(()) => Ok(Verdict::Infeasible),
+        Err(fault) => Err(fault),
+    }
 }
 
 /// Judges a certificate that the cost falls without end.
@@ -103,11 +116,11 @@ fn judge_unbounded(
     piece: &NoGood,
     line: &CertPoint,
     ray: &[(u32, i64)],
-) -> Result<(), CheckFault>
+) -> Result<Verdict, CheckFault>
     requires point { IsPoint line.now }
     requires terms { AreTerms ray.now }
-    ensures passed { IfOk result (λ done. (n : ℕ) (why : Reason) → UnboundedFails case.now piece.now line.now ray.now n why → ⊥) }
-    ensures refused { IfErr result (NamesFirst (UnboundedFails case.now piece.now line.now ray.now)) }
+    ensures accepted { IfOk result (Accepts case.now (Cert.Unbounded piece.now line.now ray.now)) }
+    ensures refused { IfErr result (RefusesAs case.now (Cert.Unbounded piece.now line.now ray.now)) }
 {
     if !is_whole(case, piece) {
         return Err(CheckFault::No {
@@ -133,7 +146,7 @@ fn judge_unbounded(
             why: NoWhy::RayFails,
         });
     }
-    Ok(())
+    Ok(Verdict::Unbounded)
 }
 
 /// Judges a certificate, line by line.
@@ -144,16 +157,11 @@ fn judge(alloc: Global, case: &Case, cert: &Cert) -> Result<Verdict, CheckFault>
 {
     match cert {
         Cert::Optimal { point, z, lines } => {
-            let point = judge_optimal(alloc, case, point, *z, lines.as_slice())?;
-            Ok(Verdict::Optimal(value_of(case, &point)))
+            judge_optimal(alloc, case, point, *z, lines.as_slice())
         }
-        Cert::Infeasible { lines } => {
-            judge_lines(case, None, lines.as_slice(), 3)?;
-            Ok(Verdict::Infeasible)
-        }
+        Cert::Infeasible { lines } => judge_infeasible(case, lines.as_slice()),
         Cert::Unbounded { piece, point, ray } => {
-            judge_unbounded(alloc, case, piece, point, ray.as_slice())?;
-            Ok(Verdict::Unbounded)
+            judge_unbounded(alloc, case, piece, point, ray.as_slice())
         }
     }
 }

@@ -8,5 +8,7 @@ mod lines;
 mod point_line;
 
 pub use accept::{CheckFault, NoWhy, check};
-pub use laws::{acceptance_is_a_function, accepted_verdicts_are_true, passed_lines_bar_nothing_lower};
+pub use laws::{
+    acceptance_is_a_function, accepted_verdicts_are_true, passed_lines_bar_nothing_lower,
+};
 pub use lpcc_case::Verdict;

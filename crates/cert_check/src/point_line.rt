@@ -22,11 +22,7 @@ fn names_columns(case: &Case, terms: &[(u32, i64)]) -> bool
 }
 
 /// The number of each column: the term's, or 0.
-fn numbers_of(
-    alloc: Global,
-    case: &Case,
-    terms: &[(u32, i64)],
-) -> Result<Sequence<i64>, AllocError>
+fn numbers_of(alloc: Global, case: &Case, terms: &[(u32, i64)]) -> Result<Sequence<i64>, AllocError>
     requires form { AreTerms terms.now }
     requires named { NamesColumns case.now terms.now }
     ensures list { IfOk result (λ numbers. numbers ≡ numbers_of case.now.columns terms.now) }
