@@ -1,5 +1,5 @@
 -- An answer that is right is the one answer that is.
-use Rattle.std.proofs.Common.{ℕ, ◌≡◌, refl, ℤ, pos, ◌≤ℤ◌, Ok, Err, Result}
+use Rattle.std.proofs.Common.{ℕ, pos, ◌≤ℤ◌, Ok, Err, Result}
 use Rattle.std.specs.Prelude.{IfOk, IfErr}
 use Rattle.lpcc_case.specs.Instance.{Instance}
 use Rattle.lpcc_case.specs.Verdicts.{IsTrueOf}

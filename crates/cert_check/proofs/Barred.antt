@@ -1,12 +1,11 @@
 -- Why the no-goods of lines that do not fail leave nothing lower out.
 use Rattle.std.proofs.Common.{ℕ, zero, suc, ◌-◌, ◌<◌, ◌≤◌, ◌≡◌, refl, sym, subst, arith, ℤ, pos, ◌*ℤ◌, ◌≤ℤ◌, true, List, [], length, map, get_or, take, add-one, inl, inr, Option, Some, None}
-use Rattle.std.specs.Prelude.{All, slice_get}
+use Rattle.std.specs.Prelude.{All}
 use Rattle.std.proofs.lemmas.List.{take_all}
 use Rattle.std.proofs.lemmas.List.Elements.{All-nil, All-more, All-map, All-weaker, All-contains}
 use Rattle.std.proofs.lemmas.Option.{slice_get-get_or, slice_get_within, get_or_from_slice_get}
 use Rattle.lp_base.proofs.Ring.{mul_comm}
 use Rattle.nogoods.specs.declared.choice.Choice.{Choice}
-use Rattle.nogoods.specs.Pieces.{Bars}
 use Rattle.lpcc_case.specs.Instance.{Instance}
 use Rattle.lpcc_case.specs.Points.{Point, IsFeasible, cost_at}
 use Rattle.lpcc_case.proofs.PieceLaws.{feasible-in_piece}

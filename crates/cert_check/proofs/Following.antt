@@ -1,7 +1,6 @@
 -- Where a ray is followed from a point, and how far the cost falls.
-use Rattle.std.proofs.Common.{ℕ, zero, suc, ◌+◌, ◌*◌, ◌<◌, ◌≤◌, ◌≡◌, refl, sym, ap, ◌∙◌, subst, arith, ℤ, pos, negsuc, ◌+ℤ◌, ◌*ℤ◌, ◌≤ℤ◌, ◌<ℤ◌, List, [], ◌∷◌, length, map, get_or, inl, inr, ◌⊎◌}
-use Rattle.std.specs.Prelude.{All, unsigned_abs, neg_ℤ}
-use Rattle.std.specs.List.{range_with_len}
+use Rattle.std.proofs.Common.{ℕ, zero, suc, ◌+◌, ◌*◌, ◌<◌, ◌≤◌, ◌≡◌, refl, sym, ap, ◌∙◌, subst, arith, ℤ, pos, negsuc, ◌+ℤ◌, ◌*ℤ◌, ◌≤ℤ◌, ◌<ℤ◌, List, [], ◌∷◌, length, get_or, inl, inr, ◌⊎◌}
+use Rattle.std.specs.Prelude.{unsigned_abs, neg_ℤ}
 use Rattle.std.proofs.lemmas.Int.{ints}
 use Rattle.std.proofs.lemmas.List.{length-map, get_or_default}
 use Rattle.std.proofs.lemmas.List.FromFn.{length-range_with_len, get_or-range_with_len}
@@ -9,15 +8,14 @@ use Rattle.std.proofs.Math.ListN.{get_or-map}
 use Rattle.std.proofs.Math.IntN.{*ℤ-zero, zero-*ℤ}
 use Rattle.std.proofs.Math.Nat.{mul-le-mul_left}
 use Rattle.lp_base.specs.Sums.{dot}
-use Rattle.lp_base.proofs.Ring.{mul_assoc, mul_comm, mul_swap, mul_add_left, mul_add_right, mul_le_right, mul_le_left}
+use Rattle.lp_base.proofs.Ring.{mul_assoc, mul_comm, mul_add_left, mul_add_right, mul_le_right, mul_le_left}
 use Rattle.nogoods.specs.declared.choice.Choice.{Choice}
 use Rattle.nogoods.specs.declared.choice.Side.{Side}
 use Rattle.nogoods.specs.declared.choice.Side.TheVariants.{A, B}
-use Rattle.lpcc_case.specs.declared.constraint.Constraint.{Constraint}
 use Rattle.lpcc_case.specs.declared.constraint.Kind.{Kind}
 use Rattle.lpcc_case.specs.declared.constraint.Kind.TheVariants.{Ge, Eq}
 use Rattle.lpcc_case.specs.Instance.{Instance, constraint_at, chosen, pair_at, member}
-use Rattle.lpcc_case.specs.Points.{Point, Relates, Meets, MeetsAll, IsTight, IsTightAt, IsComplementary, IsFeasible, Recedes, left_side, cost_at}
+use Rattle.lpcc_case.specs.Points.{Point, Relates, MeetsAll, IsTight, IsTightAt, IsComplementary, IsFeasible, Recedes, left_side, cost_at}
 use Rattle.cert_check.specs.Acceptance.{IsWholePiece}
 
 -- k times the direction r from x on, for lists of one length

@@ -1,6 +1,6 @@
 -- What the tests of single lines say of the first line that fails.
-use Rattle.std.proofs.Common.{ℕ, ◌+◌, ◌<◌, ◌≤◌, ◌≡◌, refl, sym, ap, ◌∙◌, subst, arith, ℤ, pos, ◌≤ℤ◌, Bool, true, false, List, length, get_or, inl, inr, map, Option, Some, None}
-use Rattle.std.specs.Prelude.{◌↔◌, All, unsigned_abs}
+use Rattle.std.proofs.Common.{ℕ, ◌<◌, ◌≤◌, ◌≡◌, refl, sym, ap, ◌∙◌, subst, arith, ℤ, Bool, true, false, List, length, get_or, inl, inr, map, Option, Some, None}
+use Rattle.std.specs.Prelude.{◌↔◌, unsigned_abs}
 use Rattle.std.specs.List.{range_with_len}
 use Rattle.std.proofs.lemmas.Bool.{both_ways}
 use Rattle.std.proofs.lemmas.List.{length-map, map-id}
@@ -18,13 +18,12 @@ use Rattle.lpcc_case.specs.declared.point.Point.{Point}
 use Rattle.lpcc_case.specs.Values.{IsValue}
 use Rattle.lpcc_case.specs.declared.verdict.Verdict.TheVariants as verdict
 use Rattle.lp_nums.specs.Fractions.{Fraction}
-use Rattle.cert_text.specs.declared.cert.Cert.{Cert}
 use Rattle.cert_text.specs.declared.cert.Cert.TheVariants.{Optimal, Infeasible, Unbounded}
 use Rattle.cert_text.specs.declared.cert.CertPoint.{CertPoint}
 use Rattle.cert_text.specs.declared.cert.CertLine.{CertLine}
 use Rattle.cert_text.specs.Certs.{IsPoint}
 use Rattle.cert_check.specs.declared.accept.NoWhy.{NoWhy}
-use Rattle.cert_check.specs.declared.accept.NoWhy.TheVariants.{PointFails, NotComplementary, ValueFails, RayFails}
+use Rattle.cert_check.specs.declared.accept.NoWhy.TheVariants.{NotComplementary, ValueFails, RayFails}
 use Rattle.cert_check.specs.declared.accept.CheckFault.{CheckFault}
 use Rattle.cert_check.specs.declared.accept.CheckFault.TheVariants.{No, NoMemory}
 use Rattle.cert_check.specs.Acceptance.{Accepts, GivesMet, HasCost, IsWholePiece, LineFails, NamesColumns, NoGoodsFail, PointLineFails, RayPasses, Refuses, RefusesAs, numbers_of}

@@ -1,9 +1,9 @@
 -- One line fails first, for one reason, and one verdict is accepted.
-use Rattle.std.proofs.Common.{ℕ, ◌+◌, ◌<◌, ◌≡◌, refl, sym, ap, ◌∙◌, subst, arith, ℤ, pos, ◌≤ℤ◌, List, length, inl, inr, Option, Some, None, map, take}
+use Rattle.std.proofs.Common.{ℕ, ◌<◌, ◌≡◌, refl, sym, ap, ◌∙◌, subst, arith, ℤ, pos, ◌≤ℤ◌, List, inl, inr, Option, Some, None, map, take}
 use Rattle.std.specs.Prelude.{slice_get}
 use Rattle.std.proofs.lemmas.Bool.{cases_order}
 use Rattle.std.proofs.lemmas.Option.{same_Some, slice_get_within}
-use Rattle.lp_nums.specs.Fractions.{Fraction, SameValue}
+use Rattle.lp_nums.specs.Fractions.{SameValue}
 use Rattle.lp_nums.proofs.FractionLaws.{unique}
 use Rattle.nogoods.specs.declared.choice.Choice.{Choice}
 use Rattle.lpcc_case.specs.Instance.{Instance}

@@ -1,5 +1,5 @@
 -- Facts on whole numbers that cannot fail hold.
-use Rattle.std.proofs.Common.{ℕ, zero, suc, ◌<◌, ◌≡◌, refl, sym, ap, ◌∙◌, arith, ℤ, pos, ◌≤ℤ◌, ◌<ℤ◌, List, [], ◌∷◌, length, get_or, ◌⊎◌, inl, inr}
+use Rattle.std.proofs.Common.{ℕ, ◌<◌, ◌≡◌, refl, ap, ◌∙◌, arith, ℤ, ◌≤ℤ◌, ◌<ℤ◌, List, [], ◌∷◌, get_or, ◌⊎◌, inl, inr}
 use Rattle.std.specs.Prelude.{All}
 use Rattle.std.proofs.lemmas.Int.{ints, by_lt_z}
 use Rattle.std.proofs.lemmas.Bool.{cases_lt, cases_eq}
@@ -7,7 +7,7 @@ use Rattle.nogoods.specs.declared.choice.Choice.{Choice}
 use Rattle.lpcc_case.specs.declared.constraint.Kind.{Kind}
 use Rattle.lpcc_case.specs.declared.constraint.Kind.TheVariants.{Ge, Eq}
 use Rattle.lpcc_case.specs.Instance.{Instance, constraint_at, chosen}
-use Rattle.lpcc_case.specs.Points.{Point, Relates, IsTight, IsTightAt, IsComplementary, left_side}
+use Rattle.lpcc_case.specs.Points.{Point, Relates, IsTight, IsTightAt, IsComplementary}
 
 -- it cannot fail
 abbrev pub Holds : Type 0 → Type 0

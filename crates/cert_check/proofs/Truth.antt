@@ -1,8 +1,7 @@
 -- Why an accepted verdict is true.
-use Rattle.std.proofs.Common.{ℕ, ◌<◌, ◌≡◌, refl, sym, ap, ◌∙◌, subst, arith, ℤ, pos, negsuc, ◌+ℤ◌, ◌*ℤ◌, ◌≤ℤ◌, List, inl, inr, Option, Some, None, length, map}
-use Rattle.std.specs.Prelude.{All, unsigned_abs}
+use Rattle.std.proofs.Common.{ℕ, ◌≡◌, refl, sym, ap, ◌∙◌, subst, ℤ, pos, ◌+ℤ◌, ◌*ℤ◌, List, inl, inr, Option, Some, None, length, map}
+use Rattle.std.specs.Prelude.{unsigned_abs}
 use Rattle.std.specs.List.{range_with_len}
-use Rattle.std.proofs.lemmas.Int.{ints}
 use Rattle.std.proofs.lemmas.List.FromFn.{length-map-range_with_len}
 use Rattle.lp_base.specs.Sums.{dot}
 use Rattle.lp_nums.specs.Fractions.{Fraction, SameValue}
@@ -11,7 +10,7 @@ use Rattle.lpcc_case.specs.declared.verdict.Verdict.{Verdict}
 use Rattle.lpcc_case.specs.declared.verdict.Verdict.TheVariants as verdict
 use Rattle.lpcc_case.specs.Instance.{Instance, chosen}
 use Rattle.lpcc_case.specs.Points.{Point, IsComplementary, IsTightAt, IsFeasible, IsLower, Recedes, Relates, cost_at, left_side, coefficient}
-use Rattle.lpcc_case.specs.Verdicts.{IsTrueOf, IsOptimal, IsInfeasible, IsUnbounded, HasValue}
+use Rattle.lpcc_case.specs.Verdicts.{IsTrueOf, IsInfeasible, IsUnbounded, HasValue}
 use Rattle.lpcc_case.specs.Values.{IsValue}
 use Rattle.cert_text.specs.declared.cert.Cert.{Cert}
 use Rattle.cert_text.specs.declared.cert.Cert.TheVariants.{Optimal, Infeasible, Unbounded}

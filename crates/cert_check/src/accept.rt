@@ -1,11 +1,12 @@
 //! Acceptance of a certificate for a case.
-ghost use Rattle.std.specs.Prelude.{◌≤◌, ◌^◌, All, IfErr, IfOk, unsigned_abs, ℕ};
+ghost use Rattle.std.specs.Prelude.{◌≡◌, ◌≤◌, ◌^◌, All, IfErr, IfOk, unsigned_abs, ℕ};
 ghost use Rattle.lpcc_case.specs.Verdicts.{IsTrueOf};
 ghost use Rattle.lpcc_case.specs.declared.verdict.Verdict.{Verdict as Claim};
 ghost use Rattle.cert_text.specs.Certs.{AreTerms, IsLine, IsPoint, KeepsForm};
 ghost use Rattle.cert_check.specs.declared.accept.NoWhy.{NoWhy as Reason};
 ghost use Rattle.cert_check.specs.Acceptance.{Accepts, Refuses, RefusesAs};
 ghost use Rattle.cert_check.specs.Answers.{GivesVerdict, GivesRefusal};
+ghost use Rattle.cert_check.specs.Names.{name_of};
 
 use crate::lines::judge_lines;
 use crate::point_line::{has_cost, is_whole, met_point, ray_passes};
@@ -36,6 +37,25 @@ pub enum NoWhy {
     HintFails,
     /// The last no-good has choices, or there is none.
     NotEmptyAtEnd,
+}
+
+impl NoWhy {
+    /// The name of the reason.
+    pub fn name(self) -> &'static str
+        ensures { result.now ≡ name_of self }
+    {
+        match self {
+            NoWhy::PointFails => "PointFails",
+            NoWhy::NotComplementary => "NotComplementary",
+            NoWhy::ValueFails => "ValueFails",
+            NoWhy::RayFails => "RayFails",
+            NoWhy::WrongKind => "WrongKind",
+            NoWhy::CutFails => "CutFails",
+            NoWhy::BoundLow => "BoundLow",
+            NoWhy::HintFails => "HintFails",
+            NoWhy::NotEmptyAtEnd => "NotEmptyAtEnd",
+        }
+    }
 }
 
 /// Why a certificate is not accepted.
@@ -167,8 +187,9 @@ fn judge(alloc: Global, case: &Case, cert: &Cert) -> Result<Verdict, CheckFault>
 }
 
 /// Accepts the certificate for the case with its verdict, or names the first content line that
-/// fails: a matter of these two alone. Each line is judged over the lines before it, in the time
-/// that its own text takes and that of the lines which its hints name.
+/// fails: a matter of these two alone. Each line is judged over the lines before it, in time
+/// linear in its own length, in the constraints that it names and in the lines that its hints
+/// name.
 pub fn check(alloc: Global, case: &Case, cert: &Cert) -> Result<Verdict, CheckFault>
     requires { KeepsForm cert.now }
     // What is answered is so.

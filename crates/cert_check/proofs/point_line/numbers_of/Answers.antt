@@ -1,4 +1,4 @@
-use Rattle.std.proofs.Common.{ℕ, ◌+◌, ℤ, pos, sym, subst, ◌∙◌, get_or, set, take}
+use Rattle.std.proofs.Common.{◌+◌, ℤ, pos, sym, subst, ◌∙◌, get_or, set, take}
 use Rattle.std.proofs.lemmas.List.{take_all}
 use Rattle.lp_base.specs.Numbers.{IsNarrow}
 use Rattle.lp_base.proofs.Machine.{narrow_again}
