@@ -1,2 +1,6 @@
 pub mod Cuts
+pub mod Contents
+pub mod Results
+pub mod Caps
 pub mod Going
+pub mod Ascents

@@ -3,7 +3,7 @@ use Rattle.std.specs.Prelude.{◌+◌, ◌-◌, ◌*◌, ◌^◌, ℕ, ℤ, pos,
 use Rattle.std.specs.Char.{is_ascii_digit}
 use Rattle.cert_text.specs.declared.fault.CertWhy.TheVariants.{BadLine}
 use Rattle.cert_text.specs.Spelling.{Word}
-use Rattle.cert_text.specs.Reading.{Reading, ◌>>=◌, natural_at, whole_at}
+use Rattle.cert_text.specs.Reading.{Reading, ◌>>=◌, digits_at, natural_at, below_zero, whole_at}
 
 abbrev pub most : ℕ
 most = 10 ^ 38
@@ -22,12 +22,22 @@ capped_whole (negsuc n) = Ok (neg_ℤ (pos (cap (suc n))))
 abbrev pub with_digit : ℕ → ℕ → Reading ℕ
 with_digit n byte = if is_ascii_digit byte then capped (n * 10 + (byte - 48)) else Err BadLine
 
-unfoldable pub digits_from : ℕ → Word → Reading ℕ
+abbrev pub digits_from : ℕ → Word → Reading ℕ
 digits_from n [] = Ok n
 digits_from n (byte ∷ word) = with_digit n byte >>= λ m. digits_from m word
+
+abbrev pub capped_digits_at : Word → Reading ℕ
+capped_digits_at word = digits_at word >>= capped
 
 abbrev pub capped_natural_at : Word → Reading ℕ
 capped_natural_at word = natural_at word >>= capped
 
 abbrev pub capped_whole_at : Word → Reading ℤ
 capped_whole_at word = whole_at word >>= capped_whole
+
+-- a minus stands in front of the word
+abbrev pub negative_at : Word → Reading ℤ
+negative_at word = capped_natural_at word >>= below_zero
+
+abbrev pub nonnegative_at : Word → Reading ℤ
+nonnegative_at word = capped_natural_at word >>= λ n. Ok (pos n)

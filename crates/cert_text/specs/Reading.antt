@@ -1,5 +1,5 @@
 -- What words spell, judged word by word from the front: a value, or the first reason against it.
-use Rattle.std.specs.Prelude.{◌+◌, ◌-◌, ◌^◌, ℕ, ℤ, pos, negsuc, neg_ℤ, unsigned_abs, Bool, false, not, ◌&&◌, ◌==◌, nat_lt, nat_le, if◌then◌else◌, List, [], ◌∷◌, length, take, slice_index, Option, Some, None, Result, Ok, Err, codes, bytes_eq}
+use Rattle.std.specs.Prelude.{◌+◌, ◌-◌, ◌^◌, ℕ, ℤ, pos, negsuc, neg_ℤ, unsigned_abs, ◌==◌, nat_lt, nat_le, if◌then◌else◌, List, [], ◌∷◌, length, take, slice_index, Option, Some, None, Result, Ok, Err, codes, bytes_eq}
 use Rattle.std.specs.Char.{is_ascii_digit}
 use Rattle.std.specs.Str.{all_ascii_digits}
 use Rattle.std.specs.Str.Parse.{digits_value}
@@ -23,15 +23,15 @@ abbrev pub ◌>>=◌ : {X Y E : Type 0} → Result X E → (X → Result Y E) �
 
 -- ---- numbers
 
--- digits, with no zero in front of others
-abbrev pub is_numeral : Word → Bool
-is_numeral [] = false
-is_numeral (b ∷ []) = is_ascii_digit b
-is_numeral (b ∷ c ∷ word) = not (b == 48) && all_ascii_digits (b ∷ c ∷ word)
+-- digits
+unfoldable pub digits_at : Word → Reading ℕ
+digits_at word = if all_ascii_digits word then Ok (digits_value 10 word) else Err BadLine
 
--- a whole number of at least 0
+-- a whole number of at least 0: digits, with no zero in front of others
 unfoldable pub natural_at : Word → Reading ℕ
-natural_at word = if is_numeral word then Ok (digits_value 10 word) else Err BadLine
+natural_at [] = Err BadLine
+natural_at (b ∷ []) = digits_at (b ∷ [])
+natural_at (b ∷ c ∷ word) = if b == 48 then Err BadLine else digits_at (b ∷ c ∷ word)
 
 abbrev pub below_zero : ℕ → Reading ℤ
 below_zero n = if n == 0 then Err BadLine else Ok (neg_ℤ (pos n))

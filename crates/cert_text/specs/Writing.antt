@@ -3,11 +3,11 @@ use Rattle.std.specs.Prelude.{ℕ, List, [], ◌∷◌, ◌++◌, map, flat_map}
 use Rattle.cert_text.specs.Spelling.{Word, line_bytes, text_of}
 
 -- words behind a first one
-abbrev pub spaced : List Word → List ℕ
+unfoldable pub spaced : List Word → List ℕ
 spaced words = flat_map (λ word. 32 ∷ word) words
 
-abbrev pub text_line : List Word → List ℕ
+unfoldable pub text_line : List Word → List ℕ
 text_line words = line_bytes words ++ 10 ∷ []
 
-abbrev pub text_lines : List (List Word) → List ℕ
+unfoldable pub text_lines : List (List Word) → List ℕ
 text_lines lines = text_of (map line_bytes lines)

@@ -10,7 +10,7 @@ use crate::parts::Parts;
 use crate::words::{Fault, choice_of, factor_of, hint_of, number_of};
 use lp_base::Sequence;
 use nogoods::{Choice, NoGood};
-use std::alloc::Global;
+use std::alloc::{AllocError, Global};
 
 /// Takes the first of the words that are left, which has to be this one.
 #[tactic(auto, unfolding(crate::specs::Reading::after))]
@@ -68,7 +68,7 @@ fn choices_of(alloc: Global, words: &mut Parts) -> Result<Sequence<Choice>, Faul
 }
 
 // The no-good of choices that ascend.
-fn made(alloc: Global, choices: &[Choice]) -> Result<NoGood, Fault>
+fn made(alloc: Global, choices: &[Choice]) -> Result<NoGood, AllocError>
     requires { IsTrue (pairs_ascend choices.now) }
     ensures { IfOk result (λ ng. ng ≡ choices.now) }
 {
@@ -83,7 +83,7 @@ pub fn no_good_of(alloc: Global, words: &mut Parts) -> Result<NoGood, Fault>
     ensures { Reads (λ ng. (ng, words.new)) result (choices_from 0 words.old) }
 {
     let choices = choices_of(alloc, words)?;
-    made(alloc, choices.as_slice())
+    Ok(made(alloc, choices.as_slice())?)
 }
 
 fn last_choices_of(alloc: Global, words: &mut Parts) -> Result<Sequence<Choice>, Fault>
@@ -104,7 +104,7 @@ pub fn last_no_good_of(alloc: Global, words: &mut Parts) -> Result<NoGood, Fault
     ensures { Reads (λ ng. ng) result (last_choices_from 0 words.old) }
 {
     let choices = last_choices_of(alloc, words)?;
-    made(alloc, choices.as_slice())
+    Ok(made(alloc, choices.as_slice())?)
 }
 
 fn each_term_of(alloc: Global, words: &mut Parts) -> Result<Sequence<(u32, i64)>, Fault>
@@ -114,7 +114,10 @@ fn each_term_of(alloc: Global, words: &mut Parts) -> Result<Sequence<(u32, i64)>
     let mut least = 0;
     while let Some(word) = words.next() {
         let number = number_of(word, least)?;
-        let factor = factor_of(take_first(words)?)?;
+        let Some(word) = words.next() else {
+            return Err(Fault::Of(CertWhy::BadLine));
+        };
+        let factor = factor_of(word)?;
         least = number + 1;
         terms.push((number, factor))?;
     }

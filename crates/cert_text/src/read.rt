@@ -23,6 +23,7 @@ pub enum Kind {
     Unbounded,
 }
 
+#[tactic(auto, unfolding(crate::specs::Steps::head_step))]
 fn take_head(lines: &mut Lines) -> Result<(), CertFault>
     ensures { Finds (λ _. lines.new) result (head_step lines.old) }
 {
@@ -35,6 +36,7 @@ fn take_head(lines: &mut Lines) -> Result<(), CertFault>
     Err(CertFault::At { line, why })
 }
 
+#[tactic(auto, unfolding(crate::specs::Steps::kind_in))]
 fn kind_of(line: &[u8]) -> Result<Kind, Fault>
     ensures { Reads (λ kind. kind) result (kind_in line.now) }
 {
@@ -50,6 +52,7 @@ fn kind_of(line: &[u8]) -> Result<Kind, Fault>
     Err(Fault::Of(CertWhy::BadLine))
 }
 
+#[tactic(auto, unfolding(crate::specs::Steps::kind_step))]
 fn take_kind(lines: &mut Lines) -> Result<Kind, CertFault>
     ensures { Finds (λ kind. (kind, lines.new)) result (kind_step lines.old) }
 {
@@ -57,6 +60,7 @@ fn take_kind(lines: &mut Lines) -> Result<Kind, CertFault>
     lines.judged(kind_of(line))
 }
 
+#[tactic(auto, unfolding(crate::specs::Steps::line_as))]
 fn take_point(alloc: Global, lines: &mut Lines) -> Result<CertPoint, CertFault>
     ensures { Finds (λ point. (point, lines.new)) result (line_as point_at lines.old) }
 {
@@ -64,6 +68,7 @@ fn take_point(alloc: Global, lines: &mut Lines) -> Result<CertPoint, CertFault>
     lines.judged(point_of(alloc, &mut Parts::of(line, b' ')))
 }
 
+#[tactic(auto, unfolding(crate::specs::Steps::line_as))]
 fn take_value(lines: &mut Lines) -> Result<i128, CertFault>
     ensures { Finds (λ z. (z, lines.new)) result (line_as value_at lines.old) }
 {
@@ -71,6 +76,7 @@ fn take_value(lines: &mut Lines) -> Result<i128, CertFault>
     lines.judged(value_of(&mut Parts::of(line, b' ')))
 }
 
+#[tactic(auto, unfolding(crate::specs::Steps::line_as))]
 fn take_piece(alloc: Global, lines: &mut Lines) -> Result<NoGood, CertFault>
     ensures { Finds (λ piece. (piece, lines.new)) result (line_as piece_at lines.old) }
 {
@@ -78,6 +84,7 @@ fn take_piece(alloc: Global, lines: &mut Lines) -> Result<NoGood, CertFault>
     lines.judged(piece_of(alloc, &mut Parts::of(line, b' ')))
 }
 
+#[tactic(auto, unfolding(crate::specs::Steps::line_as))]
 fn take_ray(alloc: Global, lines: &mut Lines) -> Result<Sequence<(u32, i64)>, CertFault>
     ensures { Finds (λ ray. (ray, lines.new)) result (line_as ray_at lines.old) }
 {
@@ -95,6 +102,7 @@ fn is_last(line: &[u8]) -> bool
 }
 
 // A no-good line, or nothing for the last line, behind so many no-good lines.
+#[tactic(auto, unfolding(crate::specs::Steps::entry_at))]
 fn entry_of(alloc: Global, line: &[u8], count: u64) -> Result<Option<CertLine>, Fault>
     ensures { Reads (λ entry. entry) result (entry_at count line.now) }
 {
@@ -119,6 +127,7 @@ fn take_log(alloc: Global, lines: &mut Lines) -> Result<Sequence<CertLine>, Cert
     }
 }
 
+#[tactic(auto, unfolding(crate::specs::Steps::last_step, crate::specs::Steps::line_as))]
 fn take_last(lines: &mut Lines) -> Result<u64, CertFault>
     ensures { Finds (λ k. (k, lines.new)) result (last_step lines.old) }
 {
@@ -126,6 +135,7 @@ fn take_last(lines: &mut Lines) -> Result<u64, CertFault>
     lines.judged(end_of(&mut Parts::of(line, b' '), 0))
 }
 
+#[tactic(auto, unfolding(crate::specs::Steps::optimal_step))]
 fn optimal_of(alloc: Global, lines: &mut Lines) -> Result<Cert, CertFault>
     ensures { Finds (λ cert. (cert, lines.new)) result (optimal_step lines.old) }
 {
@@ -139,6 +149,7 @@ fn optimal_of(alloc: Global, lines: &mut Lines) -> Result<Cert, CertFault>
     })
 }
 
+#[tactic(auto, unfolding(crate::specs::Steps::infeasible_step))]
 fn infeasible_of(alloc: Global, lines: &mut Lines) -> Result<Cert, CertFault>
     ensures { Finds (λ cert. (cert, lines.new)) result (infeasible_step lines.old) }
 {
@@ -146,6 +157,7 @@ fn infeasible_of(alloc: Global, lines: &mut Lines) -> Result<Cert, CertFault>
     Ok(Cert::Infeasible { lines: log })
 }
 
+#[tactic(auto, unfolding(crate::specs::Steps::unbounded_step))]
 fn unbounded_of(alloc: Global, lines: &mut Lines) -> Result<Cert, CertFault>
     ensures { Finds (λ cert. (cert, lines.new)) result (unbounded_step lines.old) }
 {
@@ -167,6 +179,7 @@ fn cert_of_kind(alloc: Global, kind: Kind, lines: &mut Lines) -> Result<Cert, Ce
 }
 
 // No content stands behind the last line.
+#[tactic(auto, unfolding(crate::specs::Steps::behind_end))]
 fn take_nothing(lines: &mut Lines) -> Result<(), CertFault>
     ensures { Finds (λ _. lines.old) result (behind_end lines.old) }
 {
@@ -180,6 +193,7 @@ fn take_nothing(lines: &mut Lines) -> Result<(), CertFault>
     }
 }
 
+#[tactic(auto, unfolding(crate::specs::Steps::cert_at))]
 fn cert_of(alloc: Global, lines: &mut Lines) -> Result<Cert, CertFault>
     ensures { Finds (λ cert. cert) result (cert_at lines.old) }
 {

@@ -1,8 +1,9 @@
 //! Single words: numbers and choices.
 ghost use Rattle.std.specs.Prelude.{◌≡◌, ◌<◌, ◌≤◌, ◌^◌, ◌-◌, ◌≤ℤ◌, pos, IfOk, unsigned_abs};
+ghost use Rattle.lp_base.specs.Numbers.{IsNarrow};
 ghost use Rattle.cert_text.specs.declared.words.Fault.TheVariants.{Memory, Of};
-ghost use Rattle.cert_text.specs.Reading.{below_zero, index_at, positive_at, factor_at, cost_value_at, count_at, side_at, chosen, choice_at, number_at, hint_at};
-ghost use Rattle.cert_text.specs.Capped.{most, capped_natural_at, capped_whole_at, with_digit, digits_from};
+ghost use Rattle.cert_text.specs.Reading.{below_zero, counted, index_at, positive, positive_at, factor, factor_at, cost_value, cost_value_at, count, count_at, side_at, chosen, choice_at, number_at, hint_at};
+ghost use Rattle.cert_text.specs.Capped.{most, capped_digits_at, capped_natural_at, capped_whole_at, negative_at, nonnegative_at, with_digit};
 
 use crate::CertWhy;
 use nogoods::{Choice, Side};
@@ -51,7 +52,7 @@ fn with_digit(value: u128, byte: u8) -> Result<u128, CertWhy>
 }
 
 fn digits_of(word: &[u8]) -> Result<u128, CertWhy>
-    ensures value { result ≡ digits_from 0 word.now }
+    ensures value { result ≡ capped_digits_at word.now }
     ensures small { IfOk result (λ n. n ≤ most) }
 {
     let mut value: u128 = 0;
@@ -61,6 +62,7 @@ fn digits_of(word: &[u8]) -> Result<u128, CertWhy>
     Ok(value)
 }
 
+#[tactic(auto, unfolding(crate::specs::Reading::natural_at))]
 fn natural_of(word: &[u8]) -> Result<u128, CertWhy>
     ensures value { result ≡ capped_natural_at word.now }
     ensures small { IfOk result (λ n. n ≤ most) }
@@ -74,7 +76,8 @@ fn natural_of(word: &[u8]) -> Result<u128, CertWhy>
 
 fn below_zero(size: u128) -> Result<i128, CertWhy>
     requires { size ≤ most }
-    ensures { result ≡ below_zero size }
+    ensures value { result ≡ below_zero size }
+    ensures small { IfOk result (λ z. unsigned_abs z ≤ most) }
 {
     if size == 0 {
         return Err(CertWhy::BadLine);
@@ -82,22 +85,39 @@ fn below_zero(size: u128) -> Result<i128, CertWhy>
     Ok(-(size as i128))
 }
 
+fn negative_of(word: &[u8]) -> Result<i128, CertWhy>
+    ensures value { result ≡ negative_at word.now }
+    ensures small { IfOk result (λ z. unsigned_abs z ≤ most) }
+{
+    let size = natural_of(word)?;
+    below_zero(size)
+}
+
+fn nonnegative_of(word: &[u8]) -> Result<i128, CertWhy>
+    ensures value { result ≡ nonnegative_at word.now }
+    ensures small { IfOk result (λ z. unsigned_abs z ≤ most) }
+{
+    let size = natural_of(word)?;
+    Ok(size as i128)
+}
+
 fn whole_of(word: &[u8]) -> Result<i128, CertWhy>
     ensures value { result ≡ capped_whole_at word.now }
     ensures small { IfOk result (λ z. unsigned_abs z ≤ most) }
 {
-    match word {
-        [b'-', digits @ ..] => below_zero(natural_of(digits)?),
-        _ => Ok(natural_of(word)? as i128),
+    let Some((first, digits)) = word.split_first() else {
+        return Err(CertWhy::BadLine);
+    };
+    if *first == b'-' {
+        return negative_of(digits);
     }
+    nonnegative_of(word)
 }
 
-/// A number from 1 to the greatest, counted from 0.
-pub fn index_of(word: &[u8], greatest: u64) -> Result<u64, CertWhy>
-    ensures index { result ≡ index_at greatest word.now }
+fn counted(greatest: u64, number: u128) -> Result<u64, CertWhy>
+    ensures value { result ≡ counted greatest number }
     ensures below { IfOk result (λ n. n < greatest) }
 {
-    let number = natural_of(word)?;
     if number == 0 {
         return Err(CertWhy::BadLine);
     }
@@ -107,11 +127,19 @@ pub fn index_of(word: &[u8], greatest: u64) -> Result<u64, CertWhy>
     Ok((number - 1) as u64)
 }
 
-/// A number from 1 to 2^63 - 1.
-pub fn positive_of(word: &[u8]) -> Result<i64, CertWhy>
-    ensures { result ≡ positive_at word.now }
+/// A number from 1 to the greatest, counted from 0.
+#[tactic(auto, using(crate::proofs::Caps::index_err, crate::proofs::Caps::index_ok))]
+pub fn index_of(word: &[u8], greatest: u64) -> Result<u64, CertWhy>
+    ensures index { result ≡ index_at greatest word.now }
+    ensures below { IfOk result (λ n. n < greatest) }
 {
     let number = natural_of(word)?;
+    counted(greatest, number)
+}
+
+fn positive(number: u128) -> Result<i64, CertWhy>
+    ensures { result ≡ positive number }
+{
     if number == 0 {
         return Err(CertWhy::BadLine);
     }
@@ -121,11 +149,19 @@ pub fn positive_of(word: &[u8]) -> Result<i64, CertWhy>
     Ok(number as i64)
 }
 
-/// A number that is not zero, of at most 2^63 - 1 in size.
-pub fn factor_of(word: &[u8]) -> Result<i64, CertWhy>
-    ensures { result ≡ factor_at word.now }
+/// A number from 1 to 2^63 - 1.
+#[tactic(auto, using(crate::proofs::Caps::positive_err, crate::proofs::Caps::positive_ok))]
+pub fn positive_of(word: &[u8]) -> Result<i64, CertWhy>
+    ensures { result ≡ positive_at word.now }
 {
-    let number = whole_of(word)?;
+    let number = natural_of(word)?;
+    positive(number)
+}
+
+fn factor(number: i128) -> Result<i64, CertWhy>
+    ensures value { result ≡ factor number }
+    ensures narrow { IfOk result (λ z. IsNarrow z) }
+{
     if number == 0 {
         return Err(CertWhy::BadLine);
     }
@@ -135,32 +171,57 @@ pub fn factor_of(word: &[u8]) -> Result<i64, CertWhy>
     Ok(number as i64)
 }
 
-/// A number of at most 2^126 in size.
-pub fn cost_value_of(word: &[u8]) -> Result<i128, CertWhy>
-    ensures { result ≡ cost_value_at word.now }
+/// A number that is not zero, of at most 2^63 - 1 in size.
+#[tactic(auto, using(crate::proofs::Caps::factor_err, crate::proofs::Caps::factor_ok))]
+pub fn factor_of(word: &[u8]) -> Result<i64, CertWhy>
+    ensures value { result ≡ factor_at word.now }
+    ensures narrow { IfOk result (λ z. IsNarrow z) }
 {
     let number = whole_of(word)?;
+    factor(number)
+}
+
+fn cost_value(number: i128) -> Result<i128, CertWhy>
+    ensures { result ≡ cost_value number }
+{
     if number.unsigned_abs() > 1 << 126 {
         return Err(CertWhy::NumberWide);
     }
     Ok(number)
 }
 
-/// The number of no-good lines, which is known.
-pub fn count_of(word: &[u8], lines: u64) -> Result<u64, CertWhy>
-    ensures { result ≡ count_at lines word.now }
+/// A number of at most 2^126 in size.
+#[tactic(auto, using(crate::proofs::Caps::cost_value_err, crate::proofs::Caps::cost_value_ok))]
+pub fn cost_value_of(word: &[u8]) -> Result<i128, CertWhy>
+    ensures { result ≡ cost_value_at word.now }
 {
     let number = whole_of(word)?;
+    cost_value(number)
+}
+
+fn count(lines: u64, number: i128) -> Result<u64, CertWhy>
+    ensures { result ≡ count lines number }
+{
     if number < 0 {
         return Err(CertWhy::BadCount);
     }
     if number >= 1 << 64 {
         return Err(CertWhy::NumberWide);
     }
-    if number as u64 != lines {
+    let count = number as u64;
+    if count != lines {
         return Err(CertWhy::BadCount);
     }
-    Ok(lines)
+    Ok(count)
+}
+
+/// The number of no-good lines, which is known.
+#[tactic(auto, using(crate::proofs::Caps::count_err, crate::proofs::Caps::count_ok))]
+pub fn count_of(word: &[u8], lines: u64) -> Result<u64, CertWhy>
+    ensures { result ≡ count_at lines word.now }
+{
+    let number = whole_of(word)?;
+    count(lines, number)
 }
 
 fn side_of(letter: u8) -> Option<Side>
@@ -175,7 +236,8 @@ fn side_of(letter: u8) -> Option<Side>
 
 fn chosen(least: u32, side: Option<Side>, pair: Result<u64, CertWhy>) -> Result<Choice, CertWhy>
     requires { IfOk pair (λ p. p < 512) }
-    ensures { result ≡ chosen least side pair }
+    ensures value { result ≡ chosen least side pair }
+    ensures below { IfOk result (λ c. c.pair < 512) }
 {
     let (Some(side), Ok(pair)) = (side, pair) else {
         return Err(CertWhy::BadChoice);
@@ -188,8 +250,10 @@ fn chosen(least: u32, side: Option<Side>, pair: Result<u64, CertWhy>) -> Result<
 }
 
 /// A choice: the pair's number, and the letter of its side. The pair is at least the least one.
+#[tactic(auto, unfolding(crate::specs::Reading::choice_at))]
 pub fn choice_of(word: &[u8], least: u32) -> Result<Choice, CertWhy>
-    ensures { result ≡ choice_at least word.now }
+    ensures value { result ≡ choice_at least word.now }
+    ensures below { IfOk result (λ c. c.pair < 512) }
 {
     let [first, ..] = word else {
         return Err(CertWhy::BadLine);

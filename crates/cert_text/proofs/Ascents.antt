@@ -1,0 +1,67 @@
+-- Choices that are read ascend.
+use Rattle.std.proofs.Common.{◌≡◌, ℕ, ◌+◌, ◌≤◌, true, ltb, List, [], ◌∷◌, Ok, Err, refl, sym, ap, subst, inl, inr, arith, Option, Some, None, take, length, ◌-◌}
+use Rattle.std.specs.Prelude.{bytes_eq, slice_index}
+use Rattle.std.specs.Char.{is_ascii_digit}
+use Rattle.std.proofs.lemmas.Bool.{ltb-false, lt-ltb, and_from}
+use Rattle.nogoods.specs.declared.choice.Choice.{Choice}
+use Rattle.nogoods.specs.declared.choice.Side.{Side}
+use Rattle.nogoods.specs.Choices.{pairs_ascend}
+use Rattle.cert_text.specs.declared.fault.CertWhy.TheVariants.{BadLine, BadChoice}
+use Rattle.cert_text.specs.Spelling.{Word, colon}
+use Rattle.cert_text.specs.Reading.{◌>>=◌, Reading, side_at, index_at, chosen, choice_at, choices_from, last_choices_from}
+use Rattle.cert_text.proofs.Results.{same_ok, bind_ok, unless_test, if_test, either}
+
+chosen_least : (least : ℕ) (side : Option Side) (pair : Reading ℕ) (c : Choice) → chosen least side pair ≡ Ok c → least ≤ c.pair
+chosen_least least None pair c e = absurd cc
+chosen_least least (Some side) (Err why) c e = absurd cc
+chosen_least least (Some side) (Ok pair) c e =
+    let made : Choice = record { pair = pair; side = side } in
+    let g = unless_test (ltb pair least) (Ok made) BadChoice c e in
+    let low : least ≤ pair = ltb-false pair least g.0 in
+    subst (λ (x : Choice). least ≤ x.pair) {x = made} (same_ok made c g.1) low
+
+pub choice_least : (least : ℕ) (w : Word) (c : Choice) → choice_at least w ≡ Ok c → least ≤ c.pair
+unfolding choice_at
+choice_least least w c e =
+    let side = side_at (slice_index w (length w - 1)) in
+    let pair = index_at 512 (take (length w - 1) w) in
+    chosen_least least side pair c (if_test (is_ascii_digit (slice_index w 0)) (chosen least side pair) BadLine c e).1
+
+-- the first pair, where there is one, is at least this
+abbrev BeginsAt : ℕ → List Choice → Type 0
+BeginsAt least [] = Unit {0}
+BeginsAt least (c ∷ cs) = least ≤ c.pair
+
+abbrev Ascend : ℕ → List Choice → Type 0
+Ascend least cs = BeginsAt least cs × (pairs_ascend cs ≡ true)
+
+ascend_more : (least : ℕ) (c : Choice) (cs : List Choice) → least ≤ c.pair → Ascend (c.pair + 1) cs → Ascend least (c ∷ cs)
+ascend_more least c [] low h = (low, refl)
+ascend_more least c (d ∷ cs) low h = (low, and_from (ltb c.pair d.pair) (pairs_ascend (d ∷ cs)) (lt-ltb c.pair d.pair (omega (arith, h.0))) h.1)
+
+choices_ascend : (least : ℕ) (ws : List Word) (x : List Choice × List Word) → choices_from least ws ≡ Ok x → Ascend least x.0
+unfolding choices_from
+choices_ascend least [] x e = absurd cc
+choices_ascend least (w ∷ ws) x e = elim (either (bytes_eq w colon) (Ok ([], ws)) (choice_at least w >>= λ c. choices_from (c.pair + 1) ws >>= λ found. Ok (c ∷ found.0, found.1)) (Ok x) e) [
+  | inl closed ↦ subst (λ (y : List Choice × List Word). Ascend least y.0) {x = ([], ws)} (same_ok ([], ws) x closed.1) (tt, refl)
+  | inr onward ↦
+      let c = bind_ok (choice_at least w) (λ c. choices_from (c.pair + 1) ws >>= λ found. Ok (c ∷ found.0, found.1)) x onward.1 in
+      let found = bind_ok (choices_from (c.0.pair + 1) ws) (λ found. Ok (c.0 ∷ found.0, found.1)) x c.2 in
+      let made : List Choice × List Word = (c.0 ∷ found.0.0, found.0.1) in
+      subst (λ (y : List Choice × List Word). Ascend least y.0) {x = made} (same_ok made x found.2)
+      (ascend_more least c.0 found.0.0 (choice_least least w c.0 c.1) (choices_ascend (c.0.pair + 1) ws found.0 found.1))
+]
+
+last_choices_ascend : (least : ℕ) (ws : List Word) (cs : List Choice) → last_choices_from least ws ≡ Ok cs → Ascend least cs
+unfolding last_choices_from
+last_choices_ascend least [] cs e = subst (Ascend least) {x = []} (same_ok [] cs e) (tt, refl)
+last_choices_ascend least (w ∷ ws) cs e =
+    let c = bind_ok (choice_at least w) (λ c. last_choices_from (c.pair + 1) ws >>= λ ds. Ok (c ∷ ds)) cs e in
+    let ds = bind_ok (last_choices_from (c.0.pair + 1) ws) (λ ds. Ok (c.0 ∷ ds)) cs c.2 in
+    subst (Ascend least) {x = c.0 ∷ ds.0} (same_ok (c.0 ∷ ds.0) cs ds.2) (ascend_more least c.0 ds.0 (choice_least least w c.0 c.1) (last_choices_ascend (c.0.pair + 1) ws ds.0 ds.1))
+
+pub choices_are_ascending : (ws : List Word) (cs : List Choice) (rest : List Word) → choices_from 0 ws ≡ Ok (cs, rest) → pairs_ascend cs ≡ true
+choices_are_ascending ws cs rest e = (choices_ascend 0 ws (cs, rest) e).1
+
+pub last_choices_are_ascending : (ws : List Word) (cs : List Choice) → last_choices_from 0 ws ≡ Ok cs → pairs_ascend cs ≡ true
+last_choices_are_ascending ws cs e = (last_choices_ascend 0 ws cs e).1

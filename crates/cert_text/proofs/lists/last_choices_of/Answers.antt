@@ -1,0 +1,14 @@
+use Rattle.std.proofs.Common.{rules}
+use Rattle.cert_text.proofs.Going.{last_choices_refused, last_choices_go_on, last_choices_stop}
+use Rattle.cert_text.proofs.lists.last_choices_of.Goals as goal
+
+pub returns-in_err-choice : goal.returns-in_err-choice
+returns-in_err-choice c =
+    search (rules, last_choices_refused c.loop-word.choices c.loop-word.least c.loop-word.words c.in-Some.word.now c.next.new.self _ _ c.in-Some.ensures c.in_err-choice.ensures.value c.loop-word.invariant)
+
+pub loop-word-preserved : goal.loop-word-preserved
+loop-word-preserved c =
+    last_choices_go_on c.loop-word.choices c.loop-word.least c.loop-word.words c.in-Some.word.now c.next.new.self c.in_ok-choice.choice c.push.new.self _ c.in-Some.ensures c.in_ok-choice.ensures.value c.in_ok-push.ensures.ok c.loop-word.invariant
+
+pub returns : goal.returns
+returns c = last_choices_stop c.loop-word.choices c.loop-word.least c.loop-word.words _ c.in_default.ensures.0 c.loop-word.invariant
