@@ -4,3 +4,5 @@ pub mod Results
 pub mod Caps
 pub mod Going
 pub mod Ascents
+pub mod Logs
+pub mod Pushes

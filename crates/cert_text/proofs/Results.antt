@@ -8,13 +8,13 @@ given x = Ok x
 abbrev pub refused : {X E : Type 0} → E → Result X E
 refused e = Err e
 
-pub same_ok : {X E : Type 0} (x y : X) → given {X} {E} x ≡ given y → x ≡ y
+pub same_ok : {X E : Type 0} (x y : X) → given {X = X} {E = E} x ≡ given y → x ≡ y
 same_ok x y e = cc
 
-pub same_err : {X E : Type 0} (d e : E) → refused {X} {E} d ≡ refused e → d ≡ e
+pub same_err : {X E : Type 0} (d e : E) → refused {X = X} {E = E} d ≡ refused e → d ≡ e
 same_err d e h = cc
 
-pub apart : {X E : Type 0} (x : X) (e : E) → given {X} {E} x ≡ refused e → ⊥
+pub apart : {X E : Type 0} (x : X) (e : E) → given {X = X} {E = E} x ≡ refused e → ⊥
 apart x e h = absurd cc
 
 pub bind_ok : {X Y E : Type 0} (r : Result X E) (f : X → Result Y E) (y : Y) → (r >>= f) ≡ Ok y → (x : X) × (r ≡ Ok x) × (f x ≡ Ok y)

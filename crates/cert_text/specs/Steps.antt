@@ -120,6 +120,12 @@ entry_at n line =
     if is_last line then (end_at n (words line) >>= λ k. Ok None)
     else (line_at (words line) >>= λ x. Ok (Some x))
 
+unfoldable pub entry_step : ℕ → Left → Found (Option CertLine × Left)
+entry_step n left = do
+  line ← whole_line left
+  entry ← at line.1.taken (entry_at n line.0)
+  Ok (entry, line.1)
+
 abbrev pub or_more : {X : Type 0} → Option CertLine → X → (CertLine → X) → X
 or_more None last more = last
 or_more (Some x) last more = more x

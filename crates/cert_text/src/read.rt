@@ -5,7 +5,7 @@ ghost use Rattle.cert_text.specs.declared.fault.CertWhy.{CertWhy as Why};
 ghost use Rattle.cert_text.specs.Faults.{is_last};
 ghost use Rattle.cert_text.specs.Reading.{point_at, value_at, piece_at, ray_at};
 ghost use Rattle.cert_text.specs.Texts.{Spells, FailsAs, Fails, Gives};
-ghost use Rattle.cert_text.specs.Steps.{Finds, Reads, all_lines, line_as, head_step, kind_in, kind_step, entry_at, log_step, last_step, optimal_step, infeasible_step, unbounded_step, step_of, behind_end, cert_at};
+ghost use Rattle.cert_text.specs.Steps.{Finds, Reads, all_lines, line_as, head_step, kind_in, kind_step, entry_at, entry_step, log_step, last_step, optimal_step, infeasible_step, unbounded_step, step_of, behind_end, cert_at};
 
 use crate::lines::{Lines, Next};
 use crate::parts::Parts;
@@ -114,17 +114,22 @@ fn entry_of(alloc: Global, line: &[u8], count: u64) -> Result<Option<CertLine>, 
     Ok(Some(line_of(alloc, &mut words)?))
 }
 
+#[tactic(auto, unfolding(crate::specs::Steps::entry_step))]
+fn take_entry(alloc: Global, lines: &mut Lines, count: u64) -> Result<Option<CertLine>, CertFault>
+    ensures { Finds (λ entry. (entry, lines.new)) result (entry_step count lines.old) }
+{
+    let line = lines.whole()?;
+    lines.judged(entry_of(alloc, line, count))
+}
+
 fn take_log(alloc: Global, lines: &mut Lines) -> Result<Sequence<CertLine>, CertFault>
     ensures { Finds (λ log. (log, lines.new)) result (log_step 0 lines.old) }
 {
     let mut log = Sequence::new(alloc);
-    loop {
-        let line = lines.whole()?;
-        match lines.judged(entry_of(alloc, line, log.len() as u64))? {
-            Some(entry) => log.push(entry)?,
-            None => return Ok(log),
-        }
+    while let Some(entry) = take_entry(alloc, lines, log.len() as u64)? {
+        log.push(entry)?;
     }
+    Ok(log)
 }
 
 #[tactic(auto, unfolding(crate::specs::Steps::last_step, crate::specs::Steps::line_as))]
