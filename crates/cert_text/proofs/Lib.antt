@@ -6,3 +6,7 @@ pub mod Going
 pub mod Ascents
 pub mod Logs
 pub mod Pushes
+pub mod Numbers
+pub mod WordLists
+pub mod Forms
+pub mod Relations
