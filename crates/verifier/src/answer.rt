@@ -1,0 +1,98 @@
+//! The answers, each with its text and its status.
+ghost use Rattle.std.specs.Prelude.{◌≡◌, IfOk, string_bytes};
+ghost use Rattle.verifier.specs.Answers.{name_of, status_of, text_of};
+
+use cert_check::{NoWhy, Verdict};
+use cert_text::CertWhy;
+use mps_pairs::DeckWhy;
+use std::alloc::{AllocError, Global};
+use std::fmt;
+
+/// What is answered to a deck with a certificate behind it. Lines are counted from 1, those of a
+/// certificate among the lines that are no comments.
+#[derive(Clone, Copy, Debug, PartialEq, Eq)]
+pub enum Answer {
+    /// Reading the input failed.
+    ReadFault,
+    /// The input has more bytes than are taken.
+    TooLong,
+    /// The first line of the deck with a fault.
+    Deck { line: u32, why: DeckWhy },
+    /// The line that names a row or bound with a number that is too wide for a case.
+    RowWide { line: u32 },
+    /// The deck has more constraints than a case may have. The line is that of ENDATA.
+    TooMany { line: u32 },
+    /// The first line of the certificate with a fault.
+    Certificate { line: u32, why: CertWhy },
+    /// The first line of the certificate that fails for the case of the deck.
+    No { line: u64, why: NoWhy },
+    /// The certificate is accepted for the case of the deck.
+    Yes(Verdict),
+    /// Memory ran out.
+    NoMemory,
+}
+
+fn name(why: NoWhy) -> &'static str
+    ensures { result.now ≡ name_of why }
+{
+    match why {
+        NoWhy::PointFails => "PointFails",
+        NoWhy::NotComplementary => "NotComplementary",
+        NoWhy::ValueFails => "ValueFails",
+        NoWhy::RayFails => "RayFails",
+        NoWhy::WrongKind => "WrongKind",
+        NoWhy::CutFails => "CutFails",
+        NoWhy::BoundLow => "BoundLow",
+        NoWhy::HintFails => "HintFails",
+        NoWhy::NotEmptyAtEnd => "NotEmptyAtEnd",
+    }
+}
+
+/// The answer's one line, without its end.
+impl fmt::Display for Answer {
+    ghost use Rattle.std.specs.Prelude.{Some};
+    ghost use Rattle.verifier.specs.Answers.{line_of};
+
+    ghost output = { λ a. Some (line_of a) };
+
+    fn fmt<W: fmt::Write>(&self, f: &mut fmt::Formatter<W>) -> fmt::Result {
+        match *self {
+            Answer::ReadFault => f.write_str("read fault"),
+            Answer::TooLong => f.write_str("deck: too long"),
+            Answer::Deck { line, why } => write!(f, "deck: line {line}: {}", why.name()),
+            Answer::RowWide { line } => write!(f, "deck: line {line}: RowWide"),
+            Answer::TooMany { line } => write!(f, "deck: line {line}: TooMany"),
+            Answer::Certificate { line, why } => write!(f, "no line {line} {}", why.name()),
+            Answer::No { line, why } => write!(f, "no line {line} {}", name(why)),
+            Answer::Yes(Verdict::Optimal(value)) => write!(f, "yes optimal {value}"),
+            Answer::Yes(Verdict::Infeasible) => f.write_str("yes infeasible"),
+            Answer::Yes(Verdict::Unbounded) => f.write_str("yes unbounded"),
+            Answer::NoMemory => f.write_str("no memory"),
+        }
+    }
+}
+
+impl Answer {
+    /// The whole text of the answer, one line that ends with LF.
+    pub fn text(self, alloc: Global) -> Result<String, AllocError>
+        ensures { IfOk result (λ text. string_bytes text ≡ text_of self) }
+    {
+        format!(in alloc; "{self}\n")
+    }
+
+    /// The status that a program ends with where the text was written.
+    pub fn status(self) -> u8
+        ensures { result ≡ status_of self }
+    {
+        match self {
+            Answer::Yes(_) => 0,
+            Answer::Certificate { .. } | Answer::No { .. } => 1,
+            Answer::TooLong
+            | Answer::Deck { .. }
+            | Answer::RowWide { .. }
+            | Answer::TooMany { .. } => 3,
+            Answer::ReadFault => 4,
+            Answer::NoMemory => 6,
+        }
+    }
+}

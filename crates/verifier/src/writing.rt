@@ -1,0 +1,22 @@
+//! Writing an answer.
+ghost use Rattle.std.specs.Prelude.{◌≡◌};
+ghost use Rattle.verifier.specs.Runs.{IsWritten};
+
+use lp_io::{Sink, put_all};
+
+/// The number that a program ends with.
+pub type Status = u8;
+
+/// The status where the text could not be written.
+pub const WRITE_FAULT: Status = 5;
+
+/// Writes the text, and answers the status that goes with it, or 5 where writing failed. It takes
+/// no memory.
+pub fn give<K: Sink>(text: &[u8], status: Status, out: &mut K) -> Status
+    ensures { IsWritten (K.taken out.old) (K.taken out.new) (K.faults out.old) (K.faults out.new) text.now status result }
+{
+    match put_all(out, text) {
+        Ok(()) => status,
+        Err(_) => WRITE_FAULT,
+    }
+}
