@@ -1,4 +1,1 @@
 pub mod Wording
-pub mod Judging
-pub mod Statuses
-pub mod Exact

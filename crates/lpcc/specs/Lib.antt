@@ -1,3 +1,1 @@
-pub mod Answers
-pub mod Causes
-pub mod Runs
+pub mod Commands

@@ -1,17 +1,15 @@
 //! `lpcc`, an exact global solver for linear programs with complementarity constraints.
 #![tactic(auto)]
 
-mod answer;
-mod judge;
 mod run;
 #[cfg(test)]
 mod tests;
 
-use answer::Answer;
 use lp_io::{StdSink, StdSource};
-use run::{give, run_alone};
+use run::{refuse_words, run_alone};
 use std::io;
 use std::process::ExitCode;
+use verifier::give_no_memory;
 
 /// The words behind the program's name.
 fn words_of(rt: &HostRuntime) -> io::Result<Vec<String>> {
@@ -26,10 +24,10 @@ fn main(rt: HostRuntime) -> ExitCode {
         Ok(words) => run_alone(rt.alloc(), &words, &mut source, &mut sink),
         Err(fault) => {
             if fault.kind() == io::ErrorKind::OutOfMemory {
-                give(Answer::NoMemory, &mut sink)
+                give_no_memory(&mut sink)
             } else {
                 // A word that is no text is no word of a command.
-                give(Answer::Words, &mut sink)
+                refuse_words(&mut sink)
             }
         }
     };

@@ -3,8 +3,8 @@ use Rattle.std.specs.Prelude.{ℕ, List, [], ◌∷◌, ◌++◌, codes}
 use Rattle.std.specs.Fmt.{decimal}
 use Rattle.lp_nums.specs.Texts.{fraction_text}
 use Rattle.lpcc_case.specs.declared.verdict.Verdict.TheVariants as verdict
-use Rattle.mps_pairs.specs.Reasons as decks
-use Rattle.cert_text.specs.Reasons as certificates
+use Rattle.mps_pairs.specs.Whys as decks
+use Rattle.cert_text.specs.Names as certificates
 use Rattle.cert_check.specs.declared.accept.NoWhy.{NoWhy}
 use Rattle.cert_check.specs.declared.accept.NoWhy.TheVariants.{PointFails, NotComplementary, ValueFails, RayFails, WrongKind, CutFails, BoundLow, HintFails, NotEmptyAtEnd}
 use Rattle.verifier.specs.declared.answer.Answer.{Answer}
@@ -34,7 +34,7 @@ no_line line name = codes "no line " ++ decimal line ++ codes " " ++ name
 abbrev pub line_of : Answer → List ℕ
 line_of ReadFault = codes "read fault"
 line_of TooLong = codes "deck: too long"
-line_of (Deck line why) = deck_line line (decks.name_of why)
+line_of (Deck line why) = deck_line line (decks.why_name why)
 line_of (RowWide line) = deck_line line (codes "RowWide")
 line_of (TooMany line) = deck_line line (codes "TooMany")
 line_of (Certificate line why) = no_line line (certificates.name_of why)

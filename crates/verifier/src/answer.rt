@@ -74,17 +74,17 @@ impl fmt::Display for Answer {
 
 impl Answer {
     /// The whole text of the answer, one line that ends with LF.
-    pub fn text(self, alloc: Global) -> Result<String, AllocError>
-        ensures { IfOk result (λ text. string_bytes text ≡ text_of self) }
+    pub fn text(&self, alloc: Global) -> Result<String, AllocError>
+        ensures { IfOk result (λ text. string_bytes text ≡ text_of self.now) }
     {
         format!(in alloc; "{self}\n")
     }
 
     /// The status that a program ends with where the text was written.
-    pub fn status(self) -> u8
-        ensures { result ≡ status_of self }
+    pub fn status(&self) -> u8
+        ensures { result ≡ status_of self.now }
     {
-        match self {
+        match *self {
             Answer::Yes(_) => 0,
             Answer::Certificate { .. } | Answer::No { .. } => 1,
             Answer::TooLong

@@ -9,4 +9,4 @@ mod writing;
 pub use answer::Answer;
 pub use judging::{MOST_BYTES, judge};
 pub use running::verify;
-pub use writing::{Status, give};
+pub use writing::{Status, give, give_no_memory};

@@ -17,7 +17,7 @@ ghost use Rattle.verifier.specs.Runs.{IsAnswer, IsWritten};
 
 use crate::answer::Answer;
 use crate::judging::{MOST_BYTES, judge};
-use crate::writing::{Status, give};
+use crate::writing::{Status, give, give_no_memory};
 use lp_io::{Sink, Source, TakeFault, take_all};
 use std::alloc::Global;
 
@@ -43,7 +43,7 @@ fn give_answer<K: Sink>(alloc: Global, answer: Answer, out: &mut K) -> Status
 {
     match answer.text(alloc) {
         Ok(text) => give(text.as_bytes(), answer.status(), out),
-        Err(_) => give(b"no memory\n", Answer::NoMemory.status(), out),
+        Err(_) => give_no_memory(out),
     }
 }
 
@@ -68,6 +68,9 @@ pub fn verify<S: Source, K: Sink>(alloc: Global, src: &mut S, out: &mut K) -> St
     ensures write_fault { result ≡ 5 → Rose (K.faults out.old) (K.faults out.new) }
     ensures written { (result ≡ 5 → ⊥) → (answer : Response) × (result ≡ status_of answer)
         × Appends (K.taken out.old) (K.taken out.new) (text_of answer) }
+
+    // Status 2 is left to the programs, for words that they do not take.
+    ensures not_two { result ≡ 2 → ⊥ }
 
     // Status 0 comes with the text `yes` and a verdict only where a certificate behind the deck is
     // accepted with this verdict; there it comes, unless reading, writing or memory fails.

@@ -1,14 +1,17 @@
 //! Writing an answer.
 ghost use Rattle.std.specs.Prelude.{◌≡◌};
+ghost use Rattle.verifier.specs.declared.answer.Answer.TheVariants.{NoMemory};
+ghost use Rattle.verifier.specs.Answers.{status_of, text_of};
 ghost use Rattle.verifier.specs.Runs.{IsWritten};
 
+use crate::answer::Answer;
 use lp_io::{Sink, put_all};
 
 /// The number that a program ends with.
 pub type Status = u8;
 
 /// The status where the text could not be written.
-pub const WRITE_FAULT: Status = 5;
+const WRITE_FAULT: Status = 5;
 
 /// Writes the text, and answers the status that goes with it, or 5 where writing failed. It takes
 /// no memory.
@@ -19,4 +22,11 @@ pub fn give<K: Sink>(text: &[u8], status: Status, out: &mut K) -> Status
         Ok(()) => status,
         Err(_) => WRITE_FAULT,
     }
+}
+
+/// Writes the answer that memory ran out. It takes no memory.
+pub fn give_no_memory<K: Sink>(out: &mut K) -> Status
+    ensures { IsWritten (K.taken out.old) (K.taken out.new) (K.faults out.old) (K.faults out.new) (text_of NoMemory) (status_of NoMemory) result }
+{
+    give(b"no memory\n", Answer::NoMemory.status(), out)
 }
