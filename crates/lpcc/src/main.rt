@@ -1,6 +1,12 @@
 //! `lpcc`, an exact global solver for linear programs with complementarity constraints.
 #![tactic(auto)]
 
+#[cfg(test)]
+mod certificate_tests;
+#[cfg(test)]
+mod deck_tests;
+#[cfg(test)]
+mod layer_tests;
 mod run;
 #[cfg(test)]
 mod tests;
