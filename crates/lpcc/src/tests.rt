@@ -22,7 +22,7 @@ pub const OPTIMAL: &str =
 
 /// A column with the cost -1, paired with one without a cost.
 pub const FALLING_DECK: &str =
-    "NAME four\nROWS\n N cost\nCOLUMNS\n x cost -1\n y cost 0\nPAIRS\n p1 COL x COL y\nENDATA\n";
+    "NAME three\nROWS\n N cost\nCOLUMNS\n x cost -1\n y cost 0\nPAIRS\n p1 COL x COL y\nENDATA\n";
 
 /// The cost of that deck falls without end.
 pub const UNBOUNDED: &str =

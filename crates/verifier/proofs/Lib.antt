@@ -1,3 +1,4 @@
 pub mod Layers
 pub mod Exits
 pub mod Statuses
+pub mod OneAnswer
