@@ -5,22 +5,9 @@ use Rattle.lp_nums.specs.Texts.{fraction_text}
 use Rattle.lpcc_case.specs.declared.verdict.Verdict.TheVariants as verdict
 use Rattle.mps_pairs.specs.Whys as decks
 use Rattle.cert_text.specs.Names as certificates
-use Rattle.cert_check.specs.declared.accept.NoWhy.{NoWhy}
-use Rattle.cert_check.specs.declared.accept.NoWhy.TheVariants.{PointFails, NotComplementary, ValueFails, RayFails, WrongKind, CutFails, BoundLow, HintFails, NotEmptyAtEnd}
+use Rattle.cert_check.specs.Names as acceptance
 use Rattle.verifier.specs.declared.answer.Answer.{Answer}
 use Rattle.verifier.specs.declared.answer.Answer.TheVariants.{ReadFault, TooLong, Deck, RowWide, TooMany, Certificate, No, Yes, NoMemory}
-
--- the name of the reason for which a content line fails
-abbrev pub name_of : NoWhy → List ℕ
-name_of PointFails = codes "PointFails"
-name_of NotComplementary = codes "NotComplementary"
-name_of ValueFails = codes "ValueFails"
-name_of RayFails = codes "RayFails"
-name_of WrongKind = codes "WrongKind"
-name_of CutFails = codes "CutFails"
-name_of BoundLow = codes "BoundLow"
-name_of HintFails = codes "HintFails"
-name_of NotEmptyAtEnd = codes "NotEmptyAtEnd"
 
 -- a line of the deck with what is wrong there
 abbrev pub deck_line : ℕ → List ℕ → List ℕ
@@ -38,7 +25,7 @@ line_of (Deck line why) = deck_line line (decks.why_name why)
 line_of (RowWide line) = deck_line line (codes "RowWide")
 line_of (TooMany line) = deck_line line (codes "TooMany")
 line_of (Certificate line why) = no_line line (certificates.name_of why)
-line_of (No line why) = no_line line (name_of why)
+line_of (No line why) = no_line line (acceptance.name_of why)
 line_of (Yes (verdict.Optimal value)) = codes "yes optimal " ++ fraction_text value
 line_of (Yes verdict.Infeasible) = codes "yes infeasible"
 line_of (Yes verdict.Unbounded) = codes "yes unbounded"

@@ -1,6 +1,6 @@
 //! The answers, each with its text and its status.
 ghost use Rattle.std.specs.Prelude.{◌≡◌, IfOk, string_bytes};
-ghost use Rattle.verifier.specs.Answers.{name_of, status_of, text_of};
+ghost use Rattle.verifier.specs.Answers.{status_of, text_of};
 
 use cert_check::{NoWhy, Verdict};
 use cert_text::CertWhy;
@@ -32,22 +32,6 @@ pub enum Answer {
     NoMemory,
 }
 
-fn name(why: NoWhy) -> &'static str
-    ensures { result.now ≡ name_of why }
-{
-    match why {
-        NoWhy::PointFails => "PointFails",
-        NoWhy::NotComplementary => "NotComplementary",
-        NoWhy::ValueFails => "ValueFails",
-        NoWhy::RayFails => "RayFails",
-        NoWhy::WrongKind => "WrongKind",
-        NoWhy::CutFails => "CutFails",
-        NoWhy::BoundLow => "BoundLow",
-        NoWhy::HintFails => "HintFails",
-        NoWhy::NotEmptyAtEnd => "NotEmptyAtEnd",
-    }
-}
-
 /// The answer's one line, without its end.
 impl fmt::Display for Answer {
     ghost use Rattle.std.specs.Prelude.{Some};
@@ -63,7 +47,7 @@ impl fmt::Display for Answer {
             Answer::RowWide { line } => write!(f, "deck: line {line}: RowWide"),
             Answer::TooMany { line } => write!(f, "deck: line {line}: TooMany"),
             Answer::Certificate { line, why } => write!(f, "no line {line} {}", why.name()),
-            Answer::No { line, why } => write!(f, "no line {line} {}", name(why)),
+            Answer::No { line, why } => write!(f, "no line {line} {}", why.name()),
             Answer::Yes(Verdict::Optimal(value)) => write!(f, "yes optimal {value}"),
             Answer::Yes(Verdict::Infeasible) => f.write_str("yes infeasible"),
             Answer::Yes(Verdict::Unbounded) => f.write_str("yes unbounded"),
