@@ -1,19 +1,42 @@
 //! What a deck says, with names replaced by numbers from 0 in the order of their first standing.
 use lp_base::Sequence;
+use lp_nums::Frac;
 
-/// The letter of a row: the objective, or a row that is at least its right-hand side.
+/// The letter of a row: the objective, or a row that is equal to, at most or at least its
+/// right-hand side.
 #[derive(Clone, Copy, Debug, PartialEq, Eq)]
 pub enum Letter {
     N,
+    E,
+    L,
     G,
 }
 
-/// A row with the line of ROWS that names it and its right-hand side, 0 where none is given.
+/// A row with the line of ROWS that names it, its right-hand side, 0 where none is given, and its
+/// range, where one is given. The right-hand side of the objective is the constant with the other
+/// sign.
 #[derive(Clone, Copy, Debug, PartialEq, Eq)]
 pub struct Row {
     pub letter: Letter,
     pub line: u32,
-    pub rhs: i64,
+    pub rhs: Frac,
+    pub range: Option<Frac>,
+}
+
+/// A bound of a column: its value, none where the column has no end there, and the line that set
+/// or removed it, 0 where it is the default.
+#[derive(Clone, Copy, Debug, PartialEq, Eq)]
+pub struct Bound {
+    pub value: Option<Frac>,
+    pub line: u32,
+}
+
+/// The bounds of a column. It is fixed where one line gave both.
+#[derive(Clone, Copy, Debug, PartialEq, Eq)]
+pub struct Column {
+    pub lower: Bound,
+    pub upper: Bound,
+    pub fixed: bool,
 }
 
 /// A coefficient of the matrix or of the objective, explicit zeros with them.
@@ -21,13 +44,15 @@ pub struct Row {
 pub struct Entry {
     pub column: u32,
     pub row: u32,
-    pub value: i64,
+    pub value: Frac,
 }
 
-/// A nonnegative quantity that a pair speaks of: a column.
+/// A nonnegative quantity that a pair speaks of: a column, or how far a row is from its right-hand
+/// side.
 #[derive(Clone, Copy, Debug, PartialEq, Eq)]
 pub enum Quantity {
     Col(u32),
+    Row(u32),
 }
 
 /// Two quantities of which one must be zero.
@@ -37,13 +62,13 @@ pub struct PairLine {
     pub b: Quantity,
 }
 
-/// The rows in file order, the objective among them at its place, the number of columns, the
-/// entries and pairs in file order, and the line of ENDATA.
+/// The objective and the rows other than N rows in file order, the place of the objective among
+/// them, the columns, entries and pairs in file order, and the line of ENDATA.
 #[derive(Drop)]
 pub struct Deck {
     pub rows: Sequence<Row>,
     pub objective: u32,
-    pub columns: u32,
+    pub columns: Sequence<Column>,
     pub entries: Sequence<Entry>,
     pub pairs: Sequence<PairLine>,
     pub end_line: u32,
