@@ -1,30 +1,39 @@
--- What a deck says of a point x / d, in its own words. Every fraction is multiplied out, so all numbers are whole.
-use Rattle.std.specs.Prelude.{◌≡◌, ◌≢◌, ℕ, ℤ, pos, ◌*ℤ◌, ◌-ℤ◌, ◌≤ℤ◌, List, All, Some, ◌⊎◌, slice_get, slice_index_or}
-use Rattle.lp_base.specs.Sums.{sum_over}
+-- What a deck says of a point x / d, in its own words and in fractions.
+use Rattle.std.specs.Prelude.{◌≡◌, ◌≢◌, ℕ, ℤ, pos, List, All, Option, Some, IfSome, ◌⊎◌, map, slice_get, slice_index_or, length}
+use Rattle.lp_nums.specs.Fractions.{Fraction, SameValue}
 use Rattle.lpcc_case.specs.Points.{Point}
 use Rattle.mps_pairs.specs.Decks.{entries_of}
+use Rattle.mps_pairs.specs.declared.deck.Column.{Column}
 use Rattle.mps_pairs.specs.declared.deck.Deck.{Deck}
 use Rattle.mps_pairs.specs.declared.deck.Quantity.{Quantity}
-use Rattle.mps_pairs.specs.declared.deck.Quantity.TheVariants.{Col}
-use Rattle.mps_pairs.specs.declared.deck.Row.{Row}
+use Rattle.mps_pairs.specs.declared.deck.Quantity.TheVariants.{Col, Row}
+use Rattle.mps_pairs.specs.declared.deck.Row as rows
+use Rattle.deck_case.specs.Rationals.{IsAtMost, minus, product, total}
+use Rattle.deck_case.specs.Sides.{sides}
 
--- the value of a column, times d
-abbrev pub column_value : List ℤ → ℕ → ℤ
-column_value x column = slice_index_or x column (pos 0)
+abbrev pub column_value : {n : ℕ} → Point n → ℕ → Fraction
+column_value p j = record { num = slice_index_or p.x j (pos 0); den = pos p.d }
 
--- the sum over the entries of a row, times d
-abbrev pub row_value : Deck → ℕ → List ℤ → ℤ
-row_value d row x = sum_over (λ e. e.value *ℤ column_value x e.column) (entries_of d.entries row)
+-- the sum over the entries of a row
+abbrev pub row_value : {n : ℕ} → Deck → ℕ → Point n → Fraction
+row_value d row p = total (map (λ e. product e.value (column_value p e.column)) (entries_of d.entries row))
 
-abbrev pub IsZeroAt : List ℤ → Quantity → Type 0
-IsZeroAt x (Col column) = column_value x column ≡ pos 0
+-- at least the lower and at most the upper end, as far as there are ends
+pub record IsWithin (lower upper : Option Fraction) (v : Fraction) : Type 0 where
+  pub above : IfSome lower (λ b. IsAtMost b v)
+  pub below : IfSome upper (λ b. IsAtMost v b)
 
--- each row but the objective has at least its right-hand side, each column is at least 0, and in each pair one is zero
-pub record MeetsDeck (d : Deck) (p : Point d.columns) : Type 0 where
-  pub rows : (k : ℕ) (r : Row) → slice_get d.rows k ≡ Some r → k ≢ d.objective → (r.rhs *ℤ pos p.d) ≤ℤ row_value d k p.x
-  pub columns : All (λ z. pos 0 ≤ℤ z) p.x
-  pub pairs : All (λ q. IsZeroAt p.x q.a ⊎ IsZeroAt p.x q.b) d.pairs
+-- a column that is 0, or a row at its right-hand side
+abbrev pub IsZeroAt : {n : ℕ} → Deck → Point n → Quantity → Type 0
+IsZeroAt d p (Col j) = (column_value p j).num ≡ pos 0
+IsZeroAt d p (Row i) = (r : rows.Row) → slice_get d.rows i ≡ Some r → SameValue (row_value d i p) r.rhs
 
--- the objective with its constant, times d: a right-hand side of the objective counts with the other sign
-abbrev pub objective_value : (d : Deck) → Row → Point d.columns → ℤ
-objective_value d objective p = row_value d d.objective p.x -ℤ (objective.rhs *ℤ pos p.d)
+-- each row but the objective is within its sides, each column within its bounds, and in each pair one is zero
+pub record MeetsDeck (d : Deck) (p : Point (length d.columns)) : Type 0 where
+  pub rows : (k : ℕ) (r : rows.Row) → slice_get d.rows k ≡ Some r → k ≢ d.objective → IsWithin (sides r.letter r.rhs r.range).lower (sides r.letter r.rhs r.range).upper (row_value d k p)
+  pub columns : (j : ℕ) (c : Column) → slice_get d.columns j ≡ Some c → IsWithin c.lower.value c.upper.value (column_value p j)
+  pub pairs : All (λ q. IsZeroAt d p q.a ⊎ IsZeroAt d p q.b) d.pairs
+
+-- the objective with its constant: a right-hand side of the objective counts with the other sign
+abbrev pub objective_value : (d : Deck) → rows.Row → Point (length d.columns) → Fraction
+objective_value d objective p = minus (row_value d d.objective p) objective.rhs

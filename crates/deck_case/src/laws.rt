@@ -1,29 +1,57 @@
-//! Laws that say that the case means the deck.
-ghost use Rattle.std.specs.Prelude.{◌≡◌, ◌↔◌, ◌*ℤ◌, ℕ, ℤ, Some, pos, slice_get};
+//! Laws that say that the case means the deck, and that a deck has a case or one fault.
+ghost use Rattle.std.specs.Prelude.{◌≡◌, ◌↔◌, ◌⊎◌, ℕ, ℤ, List, All, Some, pos, ◌*ℤ◌, ◌≤ℤ◌, length, slice_get};
+ghost use Rattle.lp_nums.specs.Fractions.{Fraction, SameValue};
+ghost use Rattle.lpcc_case.specs.Instance.{Instance};
 ghost use Rattle.lpcc_case.specs.Points.{Point, IsFeasible, cost_at};
 ghost use Rattle.lpcc_case.specs.Verdicts.{HasValue};
 ghost use Rattle.mps_pairs.specs.declared.deck.Deck.{Deck};
 ghost use Rattle.mps_pairs.specs.declared.deck.Row.{Row};
 ghost use Rattle.mps_pairs.specs.Decks.{IsDeck};
-ghost use Rattle.deck_case.specs.DeckCases.{case_of_deck};
+ghost use Rattle.deck_case.specs.declared.fault.CaseFault.{CaseFault};
+ghost use Rattle.deck_case.specs.DeckCases.{HasCase, case_of_deck};
 ghost use Rattle.deck_case.specs.DeckPoints.{MeetsDeck, objective_value, row_value};
+ghost use Rattle.deck_case.specs.Faults.{HasCaseFault};
+ghost use Rattle.deck_case.specs.Multipliers.{IsLeastMultiplier, multiplier};
 
-/// A point is feasible for the case exactly where each row but the objective has at least its
-/// right-hand side there, each column is at least 0, and in each pair one column is zero.
+/// A point is feasible for the case exactly where each row but the objective is within its sides
+/// there, each column within its bounds, and in each pair a column is 0 or a row at its
+/// right-hand side.
 pub fn feasible_exactly_where_the_deck_is_met()
-    ensures { (d : Deck) (p : Point d.columns) → IsDeck d →
+    ensures { (d : Deck) (p : Point (length d.columns)) → IsDeck d →
         IsFeasible (case_of_deck d) p ↔ MeetsDeck d p }
 {}
 
-/// The cost of a point is the sum over the objective's entries.
+/// The cost of a point over the scale is the sum over the objective's entries.
 pub fn cost_is_the_objective()
-    ensures { (d : Deck) (p : Point d.columns) → IsDeck d →
-        cost_at (case_of_deck d) p ≡ row_value d d.objective p.x }
+    ensures { (d : Deck) (p : Point (length d.columns)) → IsDeck d →
+        SameValue (row_value d d.objective p)
+        (record { num = cost_at (case_of_deck d) p; den = (case_of_deck d).scale *ℤ pos p.d }) }
 {}
 
 /// The value of a point is the objective with its constant.
 pub fn value_is_the_objective_with_its_constant()
-    ensures { (d : Deck) (p : Point d.columns) (r : Row) (n : ℤ) (m : ℕ) → IsDeck d →
+    ensures { (d : Deck) (p : Point (length d.columns)) (r : Row) (n : ℤ) (m : ℕ) → IsDeck d →
         slice_get d.rows d.objective ≡ Some r →
-        HasValue (case_of_deck d) p n m ↔ ((objective_value d r p *ℤ pos m) ≡ (n *ℤ pos p.d)) }
+        HasValue (case_of_deck d) p n m ↔ SameValue (objective_value d r p) (record { num = n; den = pos m }) }
+{}
+
+/// The multiplier of fractions clears their denominators, and no lesser positive number does.
+pub fn multiplier_is_the_least_that_clears()
+    ensures { (fs : List Fraction) → All (λ f. pos 1 ≤ℤ f.den) fs → IsLeastMultiplier fs (multiplier fs) }
+{}
+
+/// A deck has at most one case.
+pub fn case_is_determined()
+    ensures { (d : Deck) (a b : Instance) → HasCase d a → HasCase d b → a ≡ b }
+{}
+
+/// A deck has at most one fault of its case.
+pub fn fault_is_determined()
+    ensures { (d : Deck) (f g : CaseFault) → HasCaseFault d f → HasCaseFault d g → f ≡ g }
+{}
+
+/// A deck has a case exactly where it has no fault of its case.
+pub fn case_exactly_without_a_fault()
+    ensures one { (d : Deck) → ((a : Instance) × HasCase d a) ⊎ ((f : CaseFault) × HasCaseFault d f) }
+    ensures not_both { (d : Deck) (a : Instance) (f : CaseFault) → HasCase d a → HasCaseFault d f → ⊥ }
 {}

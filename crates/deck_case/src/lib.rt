@@ -1,22 +1,30 @@
-//! The case of a deck: the rows as constraints, a lower bound for each column, and the pairs.
+//! The case of a deck: the rows and the bounds of columns as constraints over whole numbers, the
+//! objective and the pairs.
 #![tactic(auto)]
 
-ghost use Rattle.std.specs.Prelude.{IfOk, IfErr, IsErr};
-ghost use Rattle.deck_case.specs.DeckCases.{HasCase, HasTooMany};
-ghost use Rattle.deck_case.specs.Faults.{IsFaultOf, IsNoMemory};
+ghost use Rattle.std.specs.Prelude.{◌≡◌, ◌⊎◌, IfOk, IfErr, IsErr};
+ghost use Rattle.deck_case.specs.declared.fault.CaseFault.{CaseFault as Fault};
+ghost use Rattle.deck_case.specs.DeckCases.{HasCase};
+ghost use Rattle.deck_case.specs.Faults.{HasCaseFault, IsFaultOf, IsNoMemory};
 ghost use Rattle.lpcc_case.specs.Instance.{Instance};
 ghost use Rattle.mps_pairs.specs.Decks.{IsDeck};
 
+mod body;
 mod columns;
+mod entries;
 mod fault;
 mod laws;
+mod numbers;
 mod objective;
 mod pairs;
+mod relations;
 mod rows;
 
+use body::Body;
 pub use fault::CaseFault;
 pub use laws::{
-    cost_is_the_objective, feasible_exactly_where_the_deck_is_met,
+    case_exactly_without_a_fault, case_is_determined, cost_is_the_objective, fault_is_determined,
+    feasible_exactly_where_the_deck_is_met, multiplier_is_the_least_that_clears,
     value_is_the_objective_with_its_constant,
 };
 use lp_base::Sequence;
@@ -27,11 +35,14 @@ use std::alloc::Global;
 /// The most constraints that a case may have.
 const MOST_CONSTRAINTS: usize = 2000;
 
-/// The case of a deck: the rows other than the objective in file order, then for each column
-/// that it is at least 0, and each pair of columns as the pair of their bounds.
+/// The case of a deck: each row times the least number that makes it whole, in file order, then
+/// the bounds of each column, and each pair as the pair of the constraints that are tight where
+/// its quantities are zero.
 ///
-/// `TooMany` comes exactly where there are more than 2,000 constraints, and names the line of
-/// ENDATA. `NoMemory` comes for want of memory alone.
+/// `RowWide` comes exactly where one of its whole numbers, or a multiplier, is past 2^52 in size,
+/// and names the first row or bound with such a number. `TooMany` comes exactly where, without
+/// that, there are more than 2,000 constraints, and names the line of ENDATA. `NoMemory` comes for
+/// want of memory alone.
 pub fn case_of(alloc: Global, deck: &Deck) -> Result<Case, CaseFault>
     requires { IsDeck deck.now }
     ensures exact { IfOk result (HasCase deck.now) }
@@ -39,25 +50,25 @@ pub fn case_of(alloc: Global, deck: &Deck) -> Result<Case, CaseFault>
 
     // The other way round, as far as memory allows.
     ensures found { (a : Instance) → HasCase deck.now a → IfErr result IsNoMemory }
-    ensures too_many { HasTooMany deck.now → IsErr result }
+    ensures refused { (f : Fault) → HasCaseFault deck.now f → IsErr result }
+    ensures named { (f : Fault) → HasCaseFault deck.now f →
+        IfErr result (λ g. IsNoMemory g ⊎ (g ≡ f)) }
 {
-    let mut terms = rows::terms_by_row(alloc, deck.rows.len(), deck.entries.as_slice())?;
-    let cost = objective::cost(alloc, deck, terms.as_slice())?;
-    let mut constraints = rows::constraints(alloc, deck, &mut terms)?;
-    let rows = constraints.len();
-    columns::push_bounds(alloc, deck.columns, &mut constraints)?;
-    if constraints.len() > MOST_CONSTRAINTS {
+    let entries = entries::entries_by_row(alloc, deck.rows.len(), deck.entries.as_slice())?;
+    let mut body = Body::of_deck(alloc, deck, entries.as_slice())?;
+    let columns = columns::push_columns(alloc, deck.columns.as_slice(), &mut body.constraints)?;
+    if body.constraints.len() > MOST_CONSTRAINTS {
         return Err(CaseFault::TooMany {
             line: deck.end_line,
         });
     }
-    let pairs = pairs::numbers(alloc, deck, rows as u32)?;
+    let pairs = pairs::numbers(alloc, deck, body.firsts.as_slice(), columns.as_slice())?;
     Ok(Case::of_parts(
-        deck.columns,
-        cost,
-        1,
-        objective::offset(deck),
-        Sequence::of_vec(constraints),
+        deck.columns.len() as u32,
+        body.objective.cost,
+        body.objective.scale,
+        body.objective.offset,
+        Sequence::of_vec(body.constraints),
         pairs,
     ))
 }

@@ -1,46 +1,83 @@
-//! The objective: the cost of each column and the constant.
-ghost use Rattle.std.specs.Prelude.{◌≡◌, ◌<◌, All, IfOk, IsTrue, length, map};
+//! The objective: the cost of each column, the constant and what both are multiplied by.
+ghost use Rattle.std.specs.Prelude.{◌≡◌, ◌<◌, ◌≤◌, ◌^◌, [], All, IfErr, IfOk, IsTrue, None, map, neg_ℤ, pos, unsigned_abs};
 ghost use Rattle.std.specs.List.{range_with_len};
 ghost use Rattle.lp_base.specs.Ascending.{ascends_by};
 ghost use Rattle.lpcc_case.specs.Cases.{column_of};
-ghost use Rattle.mps_pairs.specs.Decks.{IsDeck};
 ghost use Rattle.lpcc_case.specs.Points.{coefficient};
-ghost use Rattle.deck_case.specs.DeckCases.{cost_of, offset_of, terms_of};
+ghost use Rattle.mps_pairs.specs.declared.deck.Letter.TheVariants.{N};
+ghost use Rattle.mps_pairs.specs.Decks.{IsDeckNumber, entry_column};
+ghost use Rattle.deck_case.specs.CaseParts.{cost_of, numbers_of, offset_of, scale_of};
+ghost use Rattle.deck_case.specs.Faults.{IsFirstOf};
+ghost use Rattle.deck_case.specs.Wide.{wide_row};
 
-use crate::rows::Terms;
+use crate::CaseFault;
+use crate::entries::terms;
+use crate::numbers::{multiplier, whole};
 use lp_base::Sequence;
-use mps_pairs::Deck;
+use mps_pairs::{Entry, Row};
 use std::alloc::{AllocError, Global};
 
-fn dense(alloc: Global, columns: u32, terms: &[(u32, i64)]) -> Result<Vec<i64>, AllocError>
+/// The cost of each column and the constant, both times the scale.
+#[derive(Drop)]
+pub struct Objective {
+    pub cost: Sequence<i64>,
+    pub scale: i64,
+    pub offset: i64,
+}
+
+impl Objective {
+    /// No columns and no constant.
+    pub fn empty(alloc: Global) -> Objective {
+        Objective {
+            cost: Sequence::new(alloc),
+            scale: 1,
+            offset: 0,
+        }
+    }
+}
+
+/// The coefficient of each column.
+fn dense(alloc: Global, columns: usize, terms: &[(u32, i64)]) -> Result<Vec<i64>, AllocError>
     requires ascending { IsTrue (ascends_by column_of terms.now) }
     requires named { All (λ t. t.0 < columns) terms.now }
     ensures { IfOk result (λ row. row.items
         ≡ map (coefficient terms.now) (range_with_len 0 columns)) }
 {
-    let mut row = vec![in alloc; 0; columns as usize]?;
+    let mut row = vec![in alloc; 0; columns]?;
     for (column, value) in terms {
         row[*column as usize] = *value;
     }
     Ok(row)
 }
 
-/// The cost of each column, where `terms` has the terms of each row.
-pub fn cost(alloc: Global, deck: &Deck, terms: &[Terms]) -> Result<Sequence<i64>, AllocError>
-    requires deck { IsDeck deck.now }
-    requires terms { terms.now
-        ≡ map (terms_of deck.now.entries) (range_with_len 0 (length deck.now.rows)) }
-    ensures { IfOk result (λ made. made ≡ cost_of deck.now) }
+/// The objective from its row and its entries.
+pub fn objective_of_row(
+    alloc: Global,
+    columns: usize,
+    row: &Row,
+    entries: &[Entry],
+) -> Result<Objective, CaseFault>
+    requires letter { row.now.letter ≡ N }
+    requires numbers { All IsDeckNumber (numbers_of row.now.rhs None entries.now) }
+    requires ascending { IsTrue (ascends_by entry_column entries.now) }
+    requires named { All (λ e. e.column < columns) entries.now }
+    ensures cost { IfOk result (λ made. made.cost ≡ cost_of columns entries.now row.now) }
+    ensures scale { IfOk result (λ made. made.scale ≡ pos (scale_of entries.now row.now)) }
+    ensures offset { IfOk result (λ made. made.offset ≡ offset_of entries.now row.now) }
+    ensures narrow { IfOk result (λ made. wide_row entries.now row.now ≡ []) }
+    ensures err { IfErr result (IsFirstOf (wide_row entries.now row.now)) }
 {
-    let objective = &terms[deck.objective as usize];
-    let row = dense(alloc, deck.columns, objective.as_slice())?;
-    Ok(Sequence::of_vec(row))
-}
-
-/// The constant of the objective.
-pub fn offset(deck: &Deck) -> i64
-    requires { IsDeck deck.now }
-    ensures { result ≡ offset_of deck.now }
-{
-    -deck.rows.as_slice()[deck.objective as usize].rhs
+    let line = row.line;
+    let Some(scale) = multiplier(row.rhs, None, entries) else {
+        return Err(CaseFault::RowWide { line });
+    };
+    let Some(right) = whole(scale, row.rhs) else {
+        return Err(CaseFault::RowWide { line });
+    };
+    let terms = terms(alloc, scale, entries, line)?;
+    Ok(Objective {
+        cost: Sequence::of_vec(dense(alloc, columns, terms.as_slice())?),
+        scale: scale as i64,
+        offset: -right,
+    })
 }

@@ -1,33 +1,63 @@
 //! Pairs as numbers of constraints.
-ghost use Rattle.std.specs.Prelude.{◌≡◌, ◌+◌, ◌<◌, ◌^◌, All, IfOk, length, map};
-ghost use Rattle.mps_pairs.specs.Decks.{NamesColumn};
-ghost use Rattle.deck_case.specs.DeckCases.{pair_of, row_constraints};
+ghost use Rattle.std.specs.Prelude.{◌≡◌, ◌≤◌, ◌<◌, ◌^◌, All, IfOk, length, map};
+ghost use Rattle.std.specs.List.{range_with_len};
+ghost use Rattle.mps_pairs.specs.Decks.{IsDeck, NamesQuantity};
+ghost use Rattle.deck_case.specs.CaseParts.{constraints_of};
+ghost use Rattle.deck_case.specs.DeckCases.{before_column, before_row, pair_of, side_number, side_place};
 
 use lp_base::Sequence;
-use mps_pairs::{Deck, Quantity};
+use mps_pairs::{Deck, Letter, Quantity, Row};
 use std::alloc::{AllocError, Global};
 
-fn column(quantity: Quantity) -> u32
-    ensures { quantity ≡ Quantity.Col result }
+/// The place of a pair's side among the constraints of its row.
+fn side_place(row: &Row) -> usize
+    ensures { result ≡ side_place row.now }
 {
-    match quantity {
-        Quantity::Col(column) => column,
+    if row.letter == Letter::L && row.range.is_some() {
+        1
+    } else {
+        0
     }
 }
 
-/// The pairs as numbers of constraints, where those of the rows are `rows` and stand first.
-pub fn numbers(alloc: Global, deck: &Deck, rows: u32) -> Result<Sequence<(u32, u32)>, AllocError>
-    requires behind { rows ≡ length (row_constraints deck.now) }
-    requires room { rows + deck.now.columns < 2 ^ 32 }
-    requires named { All (λ p. NamesColumn deck.now.columns p.a
-        × NamesColumn deck.now.columns p.b) deck.now.pairs }
+fn side_number(deck: &Deck, rows: &[usize], columns: &[usize], quantity: Quantity) -> u32
+    requires deck { IsDeck deck.now }
+    requires rows { rows.now ≡ map (before_row deck.now) (range_with_len 0 (length deck.now.rows)) }
+    requires columns { columns.now
+        ≡ map (before_column deck.now) (range_with_len 0 (length deck.now.columns)) }
+    requires few { length (constraints_of deck.now) ≤ 2000 }
+    requires named { NamesQuantity deck.now quantity }
+    ensures { result ≡ side_number deck.now quantity }
+{
+    match quantity {
+        Quantity::Col(column) => columns[column as usize] as u32,
+        Quantity::Row(row) => {
+            let place = side_place(&deck.rows.as_slice()[row as usize]);
+            (rows[row as usize] + place) as u32
+        }
+    }
+}
+
+/// The pairs as numbers of constraints, where `rows` and `columns` have for each row and column
+/// the number of the first of its constraints.
+pub fn numbers(
+    alloc: Global,
+    deck: &Deck,
+    rows: &[usize],
+    columns: &[usize],
+) -> Result<Sequence<(u32, u32)>, AllocError>
+    requires deck { IsDeck deck.now }
+    requires rows { rows.now ≡ map (before_row deck.now) (range_with_len 0 (length deck.now.rows)) }
+    requires columns { columns.now
+        ≡ map (before_column deck.now) (range_with_len 0 (length deck.now.columns)) }
+    requires few { length (constraints_of deck.now) ≤ 2000 }
     ensures { IfOk result (λ made. made ≡ map (pair_of deck.now) deck.now.pairs) }
 {
-    let mut made = Vec::new(alloc);
+    let mut made = Sequence::new(alloc);
     for pair in deck.pairs.as_slice() {
-        let a = column(pair.a);
-        let b = column(pair.b);
-        made.push((rows + a, rows + b))?;
+        let a = side_number(deck, rows, columns, pair.a);
+        let b = side_number(deck, rows, columns, pair.b);
+        made.push((a, b))?;
     }
-    Ok(Sequence::of_vec(made))
+    Ok(made)
 }

@@ -1,73 +1,158 @@
 //! Rows as constraints.
-ghost use Rattle.std.specs.Prelude.{◌≡◌, ◌<◌, [], All, IfOk, length, map, replicate};
-ghost use Rattle.std.specs.List.{range_with_len};
-ghost use Rattle.deck_case.specs.DeckCases.{at_least, row_constraints, terms_of};
+ghost use Rattle.std.specs.Prelude.{◌≡◌, ◌≢◌, ◌<◌, ◌≤◌, ◌^◌, ◌++◌, ◌∷◌, [], ℤ, All, IfErr, IfSome, OnOk, None, Some, true, false, if◌then◌else◌, unsigned_abs};
+ghost use Rattle.std.specs.Int.{◌∣◌};
+ghost use Rattle.std.specs.Option.{option_map};
+ghost use Rattle.mps_pairs.specs.Decks.{IsDeckNumber};
+ghost use Rattle.mps_pairs.specs.declared.deck.Letter.TheVariants.{N, E, L, G};
+ghost use Rattle.deck_case.specs.CaseParts.{between_ends, constraints_of_row, equal_to, is_equation, numbers_of};
+ghost use Rattle.deck_case.specs.Faults.{IsFirstOf};
+ghost use Rattle.deck_case.specs.Multipliers.{times};
+ghost use Rattle.deck_case.specs.Sides.{reaches_down, sides};
+ghost use Rattle.deck_case.specs.Wide.{AreEnds, IsNarrowTerm, ends_of, far_end, narrow, wide_row};
 
-use lp_base::Sequence;
-use lpcc_case::{Constraint, Kind};
-use mps_pairs::{Deck, Entry, Letter};
+use crate::CaseFault;
+use crate::entries::{Terms, terms};
+use crate::numbers::{far_end, multiplier, whole};
+use crate::relations::{equal_to, push_lower, push_upper};
+use lp_nums::Frac;
+use lpcc_case::Constraint;
+use mps_pairs::{Entry, Letter, Row};
 use std::alloc::{AllocError, Global};
-use std::mem;
 
-/// The terms of a row: columns with their values, none of which is zero.
-pub type Terms = Sequence<(u32, i64)>;
-
-fn empty_lists(alloc: Global, count: usize) -> Result<Vec<Terms>, AllocError>
-    ensures { IfOk result (λ lists. lists.items ≡ replicate count []) }
-{
-    let mut lists = Vec::with_capacity(alloc, count)?;
-    for _ in 0..count {
-        lists.push(Sequence::new(alloc))?;
-    }
-    Ok(lists)
+/// The two ends of a row, none where it has no end.
+#[derive(Clone, Copy)]
+pub struct Ends {
+    pub lower: Option<i64>,
+    pub upper: Option<i64>,
 }
 
-/// The terms of each row, by one pass over the entries.
-pub fn terms_by_row(alloc: Global, rows: usize, entries: &[Entry]) -> Result<Vec<Terms>, AllocError>
-    requires { All (λ e. e.row < rows) entries.now }
-    ensures { IfOk result (λ lists. lists.items
-        ≡ map (terms_of entries.now) (range_with_len 0 rows)) }
+/// Whether a row's range reaches down from its right-hand side, and else up.
+fn reaches_down(letter: Letter, range: Frac) -> bool
+    ensures { result ≡ reaches_down letter range }
 {
-    let mut lists = empty_lists(alloc, rows)?;
-    for entry in entries {
-        if entry.value != 0 {
-            lists[entry.row as usize].push((entry.column, entry.value))?;
-        }
-    }
-    Ok(lists)
-}
-
-/// The sum of the terms is at least the right side.
-pub fn at_least(terms: Terms, rhs: i64) -> Constraint
-    ensures { result ≡ at_least terms rhs }
-{
-    Constraint {
-        kind: Kind::Ge,
-        terms,
-        rhs,
+    match letter {
+        Letter::L => true,
+        Letter::E => range.num() < 0,
+        Letter::N | Letter::G => false,
     }
 }
 
-/// The constraints of the rows, in file order. The terms of each row are taken out of their
-/// list, and what is left of it is open.
-pub fn constraints(
+/// The ends of a row with a range, none where the one that the range gives is too wide.
+fn ends_with_range(letter: Letter, near: i64, multiplier: u64, range: Frac) -> Option<Ends>
+    requires near { unsigned_abs near ≤ 2 ^ 52 }
+    requires positive { 0 < multiplier }
+    requires narrow { multiplier ≤ 2 ^ 52 }
+    requires clears { unsigned_abs range.den ∣ multiplier }
+    ensures { result ≡ (if reaches_down letter range
+        then option_map (λ far. ends_of (Some far) (Some near)) (narrow (far_end near true (times multiplier range)))
+        else option_map (λ far. ends_of (Some near) (Some far)) (narrow (far_end near false (times multiplier range)))) }
+{
+    if reaches_down(letter, range) {
+        let far = far_end(near, multiplier, range, true)?;
+        Some(Ends {
+            lower: Some(far),
+            upper: Some(near),
+        })
+    } else {
+        let far = far_end(near, multiplier, range, false)?;
+        Some(Ends {
+            lower: Some(near),
+            upper: Some(far),
+        })
+    }
+}
+
+/// The ends of a row without a range.
+fn ends_without_range(letter: Letter, near: i64) -> Ends
+    requires { letter ≢ N }
+    ensures e { letter ≡ E → result ≡ ends_of (Some near) (Some near) }
+    ensures l { letter ≡ L → result ≡ ends_of None (Some near) }
+    ensures g { letter ≡ G → result ≡ ends_of (Some near) None }
+{
+    match letter {
+        Letter::E | Letter::N => Ends {
+            lower: Some(near),
+            upper: Some(near),
+        },
+        Letter::L => Ends {
+            lower: None,
+            upper: Some(near),
+        },
+        Letter::G => Ends {
+            lower: Some(near),
+            upper: None,
+        },
+    }
+}
+
+/// The ends of a row times its multiplier, none where one of them is past 2^52 in size.
+fn ends_of_row(multiplier: u64, row: &Row) -> Option<Ends>
+    requires letter { row.now.letter ≢ N }
+    requires positive { 0 < multiplier }
+    requires narrow { multiplier ≤ 2 ^ 52 }
+    requires clears { unsigned_abs row.now.rhs.den ∣ multiplier }
+    requires range { IfSome row.now.range (λ r. unsigned_abs r.den ∣ multiplier) }
+    ensures { AreEnds multiplier (sides row.now.letter row.now.rhs row.now.range) result }
+{
+    let near = whole(multiplier, row.rhs)?;
+    match row.range {
+        None => Some(ends_without_range(row.letter, near)),
+        Some(range) => ends_with_range(row.letter, near, multiplier, range),
+    }
+}
+
+/// Whether a row asks for equality.
+fn is_equation(row: &Row) -> bool
+    ensures { result ≡ is_equation row.now.letter row.now.range }
+{
+    row.letter == Letter::E && row.range.is_none()
+}
+
+/// Adds the constraints of a row with these terms and ends.
+fn push_ends(
     alloc: Global,
-    deck: &Deck,
-    terms: &mut Vec<Terms>,
-) -> Result<Vec<Constraint>, AllocError>
-    requires { terms.old.items
-        ≡ map (terms_of deck.now.entries) (range_with_len 0 (length deck.now.rows)) }
-    ensures { IfOk result (λ made. made.items ≡ row_constraints deck.now) }
+    equation: bool,
+    terms: Terms,
+    ends: Ends,
+    made: &mut Vec<Constraint>,
+) -> Result<(), AllocError>
+    requires terms { All IsNarrowTerm terms }
+    requires end { IfSome ends.upper (λ b. unsigned_abs b ≤ 2 ^ 52) }
+    ensures equation { equation ≡ true → (b : ℤ) → ends.lower ≡ Some b
+        → OnOk result (made.new.items ≡ made.old.items ++ equal_to terms b ∷ []) }
+    ensures ends { equation ≡ false
+        → OnOk result (made.new.items ≡ made.old.items ++ between_ends terms ends.lower ends.upper) }
 {
-    let mut made = Vec::new(alloc);
-    for (number, row) in deck.rows.as_slice().iter().enumerate() {
-        match row.letter {
-            Letter::N => {}
-            Letter::G => {
-                let terms = mem::replace(&mut terms[number], Sequence::new(alloc));
-                made.push(at_least(terms, row.rhs))?;
-            }
-        }
+    if let (true, Some(end)) = (equation, ends.lower) {
+        made.push(equal_to(terms, end))?;
+        return Ok(());
     }
-    Ok(made)
+    push_lower(alloc, &terms, ends.lower, made)?;
+    push_upper(alloc, &terms, ends.upper, made)
+}
+
+/// Adds the constraints of a row that is not the objective, from its entries.
+pub fn push_row(
+    alloc: Global,
+    row: &Row,
+    entries: &[Entry],
+    made: &mut Vec<Constraint>,
+) -> Result<(), CaseFault>
+    requires letter { row.now.letter ≢ N }
+    requires numbers { All IsDeckNumber (numbers_of row.now.rhs row.now.range entries.now) }
+    ensures ok { OnOk result (made.new.items
+        ≡ made.old.items ++ constraints_of_row entries.now row.now) }
+    ensures narrow { OnOk result (wide_row entries.now row.now ≡ []) }
+    ensures err { IfErr result (IsFirstOf (wide_row entries.now row.now)) }
+{
+    let line = row.line;
+    let Some(known) = multiplier(row.rhs, row.range, entries) else {
+        return Err(CaseFault::RowWide { line });
+    };
+    let terms = terms(alloc, known, entries, line)?;
+    let Some(ends) = ends_of_row(known, row) else {
+        return Err(CaseFault::RowWide { line });
+    };
+    push_ends(alloc, is_equation(row), terms, ends, made)?;
+    Ok(())
 }

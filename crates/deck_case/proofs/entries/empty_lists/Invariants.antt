@@ -1,5 +1,5 @@
 use Rattle.std.proofs.Common.{◌≡◌, [], replicate}
-use Rattle.deck_case.proofs.rows.empty_lists.Given as goal
+use Rattle.deck_case.proofs.entries.empty_lists.Given as goal
 
 abbrev pub invariant-loop : goal.invariant-loop
 invariant-loop l = l.lists.items ≡ replicate l.counter []

@@ -1,9 +1,9 @@
 use Rattle.std.proofs.Common.{◌≡◌, length, take}
-use Rattle.deck_case.proofs.RowSteps.{HasTerms}
-use Rattle.deck_case.proofs.rows.terms_by_row.Given as goal
+use Rattle.deck_case.proofs.Grouping.{HasEntries}
+use Rattle.deck_case.proofs.entries.entries_by_row.Given as goal
 
 abbrev pub invariant-loop-entry : goal.invariant-loop-entry
 invariant-loop-entry l = record {
   long : length l.lists.items ≡ l.rows;
-  each : HasTerms l.lists.items (take l.entry-index l.entries);
+  each : HasEntries l.lists.items (take l.entry-index l.entries);
 }
