@@ -1,5 +1,5 @@
 -- Making fractions whole: the least multiplier, and what it makes of them.
-use Rattle.std.specs.Prelude.{◌≤◌, ◌<◌, ℕ, zero, suc, ◌+◌, ◌*◌, ◌%◌, ◌==◌, ℤ, pos, ◌*ℤ◌, Bool, IsTrue, if◌then◌else◌, List, [], ◌∷◌, int_div, unsigned_abs}
+use Rattle.std.specs.Prelude.{◌≤◌, ◌<◌, ◌≤ℤ◌, All, ℕ, zero, suc, ◌+◌, ◌*◌, ◌%◌, ◌==◌, ℤ, pos, ◌*ℤ◌, Bool, IsTrue, if◌then◌else◌, List, [], ◌∷◌, int_div, unsigned_abs}
 use Rattle.std.specs.List.{list_all}
 use Rattle.std.specs.Int.{◌∣◌}
 use Rattle.lp_nums.specs.Fractions.{Fraction}
@@ -28,6 +28,9 @@ times m f = int_div (f.num *ℤ pos m) f.den
 -- the least common multiple: it divides each common multiple
 abbrev pub IsLcm : ℕ → ℕ → ℕ → Type 0
 IsLcm a b l = (a ∣ l) × (b ∣ l) × ((k : ℕ) → a ∣ k → b ∣ k → l ∣ k)
+
+abbrev pub ArePositive : List Fraction → Type 0
+ArePositive fs = All (λ f. pos 1 ≤ℤ f.den) fs
 
 -- no lesser positive whole number clears the fractions
 pub record IsLeastMultiplier (fs : List Fraction) (m : ℕ) : Type 0 where

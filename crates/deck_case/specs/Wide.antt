@@ -1,7 +1,8 @@
 -- What is too wide for a case, and the line that names it.
-use Rattle.std.specs.Prelude.{◌≡◌, ◌≤◌, ℕ, ℤ, ◌+ℤ◌, ◌-ℤ◌, ◌^◌, ◌++◌, pos, Bool, true, false, nat_lt, List, [], ◌∷◌, Option, None, Some, map, unsigned_abs, if◌then◌else◌}
+use Rattle.std.specs.Prelude.{◌≡◌, ◌≤◌, ◌<◌, ℕ, ℤ, ◌+ℤ◌, ◌-ℤ◌, ◌^◌, ◌++◌, pos, Bool, true, false, nat_lt, List, [], ◌∷◌, Option, None, Some, MatchOption, map, unsigned_abs, if◌then◌else◌}
 use Rattle.std.specs.List.{enumerate_from, flat_map, list_any}
 use Rattle.std.specs.Option.{option_map, option_map_or, option_to_list}
+use Rattle.lp_nums.specs.Fractions.{Fraction}
 use Rattle.lpcc_case.specs.declared.constraint.Constraint.{Constraint}
 use Rattle.mps_pairs.specs.Decks.{entries_of}
 use Rattle.mps_pairs.specs.declared.deck.Bound.{Bound}
@@ -12,7 +13,7 @@ use Rattle.mps_pairs.specs.declared.deck.Letter.{Letter}
 use Rattle.mps_pairs.specs.declared.deck.Letter.TheVariants.{N, E, L, G}
 use Rattle.mps_pairs.specs.declared.deck.Row.{Row}
 use Rattle.deck_case.specs.declared.rows.Ends.{Ends}
-use Rattle.deck_case.specs.Multipliers.{times}
+use Rattle.deck_case.specs.Multipliers.{multiplier, times}
 use Rattle.deck_case.specs.Sides.{Sides}
 use Rattle.deck_case.specs.CaseParts.{coefficients, constraints_of_row, cost_terms, offset_of, row_multiplier, scale_of}
 
@@ -25,6 +26,10 @@ narrow z = if is_wide z then None else Some z
 
 abbrev pub has_wide : List ℤ → Bool
 has_wide numbers = list_any is_wide numbers
+
+-- the multiplier of these fractions, none where it is too wide
+abbrev pub IsNarrowMultiplier : List Fraction → Option ℕ → Type 0
+IsNarrowMultiplier fs found = MatchOption found (2 ^ 52 < multiplier fs) (λ m. (m ≡ multiplier fs) × (m ≤ 2 ^ 52))
 
 -- the whole numbers of a constraint
 abbrev pub whole_numbers : Constraint → List ℤ

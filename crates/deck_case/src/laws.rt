@@ -1,5 +1,5 @@
 //! Laws that say that the case means the deck, and that a deck has a case or one fault.
-ghost use Rattle.std.specs.Prelude.{◌≡◌, ◌↔◌, ◌⊎◌, ℕ, ℤ, List, All, Some, pos, ◌*ℤ◌, ◌≤ℤ◌, length, slice_get};
+ghost use Rattle.std.specs.Prelude.{◌≡◌, ◌↔◌, ◌⊎◌, ℕ, ℤ, List, Some, pos, ◌*ℤ◌, length, slice_get};
 ghost use Rattle.lp_nums.specs.Fractions.{Fraction, SameValue};
 ghost use Rattle.lpcc_case.specs.Instance.{Instance};
 ghost use Rattle.lpcc_case.specs.Points.{Point, IsFeasible, cost_at};
@@ -11,7 +11,7 @@ ghost use Rattle.deck_case.specs.declared.fault.CaseFault.{CaseFault};
 ghost use Rattle.deck_case.specs.DeckCases.{HasCase, case_of_deck};
 ghost use Rattle.deck_case.specs.DeckPoints.{MeetsDeck, objective_value, row_value};
 ghost use Rattle.deck_case.specs.Faults.{HasCaseFault};
-ghost use Rattle.deck_case.specs.Multipliers.{IsLeastMultiplier, multiplier};
+ghost use Rattle.deck_case.specs.Multipliers.{ArePositive, IsLeastMultiplier, multiplier};
 
 /// A point is feasible for the case exactly where each row but the objective is within its sides
 /// there, each column within its bounds, and in each pair a column is 0 or a row at its
@@ -37,7 +37,7 @@ pub fn value_is_the_objective_with_its_constant()
 
 /// The multiplier of fractions clears their denominators, and no lesser positive number does.
 pub fn multiplier_is_the_least_that_clears()
-    ensures { (fs : List Fraction) → All (λ f. pos 1 ≤ℤ f.den) fs → IsLeastMultiplier fs (multiplier fs) }
+    ensures { (fs : List Fraction) → ArePositive fs → IsLeastMultiplier fs (multiplier fs) }
 {}
 
 /// A deck has at most one case.

@@ -1,10 +1,12 @@
 //! Fractions made whole.
-ghost use Rattle.std.specs.Prelude.{◌≡◌, ◌^◌, ◌<◌, ◌≤◌, ◌≤ℤ◌, pos, All, IfSome, IsNone, MatchOption, ℕ, unsigned_abs};
-ghost use Rattle.std.specs.Int.{◌∣◌};
+ghost use Rattle.std.specs.Prelude.{◌≡◌, ◌^◌, ◌<◌, ◌≤◌, ◌++◌, ◌∷◌, [], List, All, IfSome, MatchOption, ℕ, unsigned_abs};
+ghost use Rattle.std.specs.Option.{option_to_list};
+ghost use Rattle.lp_nums.specs.Fractions.{Fraction, IsReduced};
+ghost use Rattle.std.specs.Int.{◌∣◌, IsGcd};
 ghost use Rattle.mps_pairs.specs.Decks.{IsDeckNumber};
 ghost use Rattle.deck_case.specs.CaseParts.{numbers_of};
-ghost use Rattle.deck_case.specs.Multipliers.{IsLcm, multiplier, times};
-ghost use Rattle.deck_case.specs.Wide.{far_end, narrow};
+ghost use Rattle.deck_case.specs.Multipliers.{ArePositive, IsLcm, multiplier, times};
+ghost use Rattle.deck_case.specs.Wide.{IsNarrowMultiplier, far_end, narrow};
 
 use lp_nums::{Frac, gcd};
 use mps_pairs::Entry;
@@ -12,17 +14,32 @@ use mps_pairs::Entry;
 /// The most that a whole number of a case, or a multiplier, may have in size.
 const WIDEST: u128 = 1 << 52;
 
-/// The least common multiple, where it is at most 2^52.
-fn common(multiplier: u64, den: i128) -> Option<u64>
-    requires positive { 0 < multiplier }
-    requires narrow { multiplier ≤ 2 ^ 52 }
-    requires den_positive { pos 1 ≤ℤ den }
-    requires den_narrow { unsigned_abs den ≤ 10 ^ 18 }
-    ensures made { IfSome result (λ l. IsLcm multiplier (unsigned_abs den) l × (l ≤ 2 ^ 52)) }
-    ensures wide { IsNone result → (l : ℕ) → IsLcm multiplier (unsigned_abs den) l → 2 ^ 52 < l }
+/// The denominator.
+fn den_of(number: Frac) -> u64
+    requires small { unsigned_abs number.den ≤ 10 ^ 18 }
+    ensures value { result ≡ unsigned_abs number.den }
+    ensures positive { 0 < result }
+    ensures lowest { IsReduced number }
 {
-    let known = i128::from(multiplier);
-    let least = (known / gcd(known, den) * den).unsigned_abs();
+    number.den().unsigned_abs() as u64
+}
+
+fn common_divisor(a: u64, b: u64) -> u64
+    requires { 0 < a }
+    ensures { IsGcd a b result }
+{
+    gcd(i128::from(a), i128::from(b)).unsigned_abs() as u64
+}
+
+/// The least common multiple, where it is at most 2^52.
+fn common(known: u64, den: u64) -> Option<u64>
+    requires positive { 0 < known }
+    requires narrow { known ≤ 2 ^ 52 }
+    requires den { den ≤ 10 ^ 18 }
+    ensures { MatchOption result ((l : ℕ) → IsLcm known den l → 2 ^ 52 < l)
+        (λ l. IsLcm known den l × (l ≤ 2 ^ 52)) }
+{
+    let least = u128::from(known / common_divisor(known, den)) * u128::from(den);
     if least > WIDEST {
         None
     } else {
@@ -30,19 +47,41 @@ fn common(multiplier: u64, den: i128) -> Option<u64>
     }
 }
 
+/// The multiplier of some fractions and one more, where `known` is that of the fractions.
+fn with_number(known: u64, number: Frac) -> Option<u64>
+    requires positive { 0 < known }
+    requires narrow { known ≤ 2 ^ 52 }
+    requires den { unsigned_abs number.den ≤ 10 ^ 18 }
+    ensures { (fs : List Fraction) → ArePositive fs → known ≡ multiplier fs
+        → IsNarrowMultiplier (fs ++ number ∷ []) result }
+{
+    common(known, den_of(number))
+}
+
+/// The same with a range, if there is one.
+fn with_range(known: u64, range: Option<Frac>) -> Option<u64>
+    requires positive { 0 < known }
+    requires narrow { known ≤ 2 ^ 52 }
+    requires den { IfSome range (λ r. unsigned_abs r.den ≤ 10 ^ 18) }
+    ensures { (fs : List Fraction) → ArePositive fs → known ≡ multiplier fs
+        → IsNarrowMultiplier (fs ++ option_to_list range) result }
+{
+    match range {
+        None => Some(known),
+        Some(range) => with_number(known, range),
+    }
+}
+
 /// The least positive whole number that clears the denominators of a row's right-hand side, range
 /// and entries, where it is at most 2^52.
 pub fn multiplier(rhs: Frac, range: Option<Frac>, entries: &[Entry]) -> Option<u64>
     requires { All IsDeckNumber (numbers_of rhs range entries.now) }
-    ensures { MatchOption result (2 ^ 52 < multiplier (numbers_of rhs range entries.now))
-        (λ m. (m ≡ multiplier (numbers_of rhs range entries.now)) × (m ≤ 2 ^ 52)) }
+    ensures { IsNarrowMultiplier (numbers_of rhs range entries.now) result }
 {
-    let mut known = common(1, rhs.den())?;
-    if let Some(range) = range {
-        known = common(known, range.den())?;
-    }
+    let known = with_number(1, rhs)?;
+    let mut known = with_range(known, range)?;
     for entry in entries {
-        known = common(known, entry.value.den())?;
+        known = with_number(known, entry.value)?;
     }
     Some(known)
 }
@@ -61,18 +100,20 @@ pub fn narrow(whole: i128) -> Option<i64>
 /// A number times a multiplier that clears it.
 fn times(multiplier: u64, number: Frac) -> i128
     requires narrow { multiplier ≤ 2 ^ 52 }
+    requires den { unsigned_abs number.den ≤ 10 ^ 18 }
     requires clears { unsigned_abs number.den ∣ multiplier }
     requires room { unsigned_abs number.num ≤ 2 ^ 53 }
     ensures value { result ≡ times multiplier number }
     ensures room { unsigned_abs result ≤ 2 ^ 105 }
 {
-    number.num() * (i128::from(multiplier) / number.den())
+    number.num() * i128::from(multiplier / den_of(number))
 }
 
 /// A number times a multiplier that clears it, where that is at most 2^52 in size.
 pub fn whole(multiplier: u64, number: Frac) -> Option<i64>
     requires positive { 0 < multiplier }
     requires narrow { multiplier ≤ 2 ^ 52 }
+    requires den { unsigned_abs number.den ≤ 10 ^ 18 }
     requires clears { unsigned_abs number.den ∣ multiplier }
     ensures { result ≡ narrow (times multiplier number) }
 {
@@ -101,6 +142,7 @@ pub fn far_end(near: i64, multiplier: u64, range: Frac, down: bool) -> Option<i6
     requires near { unsigned_abs near ≤ 2 ^ 52 }
     requires positive { 0 < multiplier }
     requires narrow { multiplier ≤ 2 ^ 52 }
+    requires den { unsigned_abs range.den ≤ 10 ^ 18 }
     requires clears { unsigned_abs range.den ∣ multiplier }
     ensures { result ≡ narrow (far_end near down (times multiplier range)) }
 {
