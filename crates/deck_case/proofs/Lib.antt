@@ -4,3 +4,4 @@ pub mod Grouping
 pub mod Multiples
 pub mod Wholes
 pub mod MultiplierSteps
+pub mod TermSteps

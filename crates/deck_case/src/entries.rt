@@ -1,11 +1,10 @@
 //! The entries of each row, and their terms.
-ghost use Rattle.std.specs.Prelude.{◌≡◌, ◌<◌, ◌≤◌, ◌^◌, [], All, IfErr, unsigned_abs, IfOk, false, map, replicate};
-ghost use Rattle.std.specs.Int.{◌∣◌};
+ghost use Rattle.std.specs.Prelude.{◌≡◌, ◌<◌, ◌≤◌, ◌^◌, [], All, IfErr, IfOk, false, map, replicate};
 ghost use Rattle.std.specs.List.{range_with_len};
 ghost use Rattle.mps_pairs.specs.Decks.{entries_of};
 ghost use Rattle.deck_case.specs.CaseParts.{coefficients, terms_of};
 ghost use Rattle.deck_case.specs.Faults.{IsFirstOf};
-ghost use Rattle.deck_case.specs.Wide.{has_wide, named};
+ghost use Rattle.deck_case.specs.Wide.{IsClearedBy, has_wide, named};
 
 use crate::CaseFault;
 use crate::numbers::whole;
@@ -52,7 +51,7 @@ pub fn terms(
 ) -> Result<Terms, CaseFault>
     requires positive { 0 < multiplier }
     requires narrow { multiplier ≤ 2 ^ 52 }
-    requires clears { All (λ e. unsigned_abs e.value.den ∣ multiplier) entries.now }
+    requires clears { All (λ e. IsClearedBy multiplier e.value) entries.now }
     ensures ok { IfOk result (λ made. made ≡ terms_of multiplier entries.now) }
     ensures narrow { IfOk result (λ made. has_wide (coefficients made) ≡ false) }
     ensures err { IfErr result (IsFirstOf (named line

@@ -2,11 +2,11 @@
 ghost use Rattle.std.specs.Prelude.{◌≡◌, ◌^◌, ◌<◌, ◌≤◌, ◌++◌, ◌∷◌, [], List, All, IfSome, MatchOption, ℕ, unsigned_abs};
 ghost use Rattle.std.specs.Option.{option_to_list};
 ghost use Rattle.lp_nums.specs.Fractions.{Fraction, IsReduced};
-ghost use Rattle.std.specs.Int.{◌∣◌, IsGcd};
+ghost use Rattle.std.specs.Int.{IsGcd};
 ghost use Rattle.mps_pairs.specs.Decks.{IsDeckNumber};
 ghost use Rattle.deck_case.specs.CaseParts.{numbers_of};
 ghost use Rattle.deck_case.specs.Multipliers.{ArePositive, IsLcm, multiplier, times};
-ghost use Rattle.deck_case.specs.Wide.{IsNarrowMultiplier, far_end, narrow};
+ghost use Rattle.deck_case.specs.Wide.{IsClearedBy, IsNarrowMultiplier, far_end, narrow};
 
 use lp_nums::{Frac, gcd};
 use mps_pairs::Entry;
@@ -100,8 +100,7 @@ pub fn narrow(whole: i128) -> Option<i64>
 /// A number times a multiplier that clears it.
 fn times(multiplier: u64, number: Frac) -> i128
     requires narrow { multiplier ≤ 2 ^ 52 }
-    requires den { unsigned_abs number.den ≤ 10 ^ 18 }
-    requires clears { unsigned_abs number.den ∣ multiplier }
+    requires clears { IsClearedBy multiplier number }
     requires room { unsigned_abs number.num ≤ 2 ^ 53 }
     ensures value { result ≡ times multiplier number }
     ensures room { unsigned_abs result ≤ 2 ^ 105 }
@@ -113,8 +112,7 @@ fn times(multiplier: u64, number: Frac) -> i128
 pub fn whole(multiplier: u64, number: Frac) -> Option<i64>
     requires positive { 0 < multiplier }
     requires narrow { multiplier ≤ 2 ^ 52 }
-    requires den { unsigned_abs number.den ≤ 10 ^ 18 }
-    requires clears { unsigned_abs number.den ∣ multiplier }
+    requires clears { IsClearedBy multiplier number }
     ensures { result ≡ narrow (times multiplier number) }
 {
     if number.num().unsigned_abs() > WIDEST {
@@ -142,8 +140,7 @@ pub fn far_end(near: i64, multiplier: u64, range: Frac, down: bool) -> Option<i6
     requires near { unsigned_abs near ≤ 2 ^ 52 }
     requires positive { 0 < multiplier }
     requires narrow { multiplier ≤ 2 ^ 52 }
-    requires den { unsigned_abs range.den ≤ 10 ^ 18 }
-    requires clears { unsigned_abs range.den ∣ multiplier }
+    requires clears { IsClearedBy multiplier range }
     ensures { result ≡ narrow (far_end near down (times multiplier range)) }
 {
     if range.num().unsigned_abs() > 2 * WIDEST {

@@ -1,6 +1,5 @@
 //! Rows as constraints.
 ghost use Rattle.std.specs.Prelude.{◌≡◌, ◌≢◌, ◌<◌, ◌≤◌, ◌^◌, ◌++◌, ◌∷◌, [], ℤ, All, IfErr, IfSome, OnOk, None, Some, true, false, if◌then◌else◌, unsigned_abs};
-ghost use Rattle.std.specs.Int.{◌∣◌};
 ghost use Rattle.std.specs.Option.{option_map};
 ghost use Rattle.mps_pairs.specs.Decks.{IsDeckNumber};
 ghost use Rattle.mps_pairs.specs.declared.deck.Letter.TheVariants.{N, E, L, G};
@@ -8,7 +7,7 @@ ghost use Rattle.deck_case.specs.CaseParts.{between_ends, constraints_of_row, eq
 ghost use Rattle.deck_case.specs.Faults.{IsFirstOf};
 ghost use Rattle.deck_case.specs.Multipliers.{times};
 ghost use Rattle.deck_case.specs.Sides.{reaches_down, sides};
-ghost use Rattle.deck_case.specs.Wide.{AreEnds, IsNarrowTerm, ends_of, far_end, narrow, wide_row};
+ghost use Rattle.deck_case.specs.Wide.{AreEnds, IsClearedBy, IsNarrowTerm, ends_of, far_end, narrow, wide_row};
 
 use crate::CaseFault;
 use crate::entries::{Terms, terms};
@@ -42,7 +41,7 @@ fn ends_with_range(letter: Letter, near: i64, multiplier: u64, range: Frac) -> O
     requires near { unsigned_abs near ≤ 2 ^ 52 }
     requires positive { 0 < multiplier }
     requires narrow { multiplier ≤ 2 ^ 52 }
-    requires clears { unsigned_abs range.den ∣ multiplier }
+    requires clears { IsClearedBy multiplier range }
     ensures { result ≡ (if reaches_down letter range
         then option_map (λ far. ends_of (Some far) (Some near)) (narrow (far_end near true (times multiplier range)))
         else option_map (λ far. ends_of (Some near) (Some far)) (narrow (far_end near false (times multiplier range)))) }
@@ -90,8 +89,8 @@ fn ends_of_row(multiplier: u64, row: &Row) -> Option<Ends>
     requires letter { row.now.letter ≢ N }
     requires positive { 0 < multiplier }
     requires narrow { multiplier ≤ 2 ^ 52 }
-    requires clears { unsigned_abs row.now.rhs.den ∣ multiplier }
-    requires range { IfSome row.now.range (λ r. unsigned_abs r.den ∣ multiplier) }
+    requires clears { IsClearedBy multiplier row.now.rhs }
+    requires range { IfSome row.now.range (IsClearedBy multiplier) }
     ensures { AreEnds multiplier (sides row.now.letter row.now.rhs row.now.range) result }
 {
     let near = whole(multiplier, row.rhs)?;
