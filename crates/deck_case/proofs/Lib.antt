@@ -5,3 +5,5 @@ pub mod Multiples
 pub mod Wholes
 pub mod MultiplierSteps
 pub mod TermSteps
+pub mod SideSteps
+pub mod RowSteps

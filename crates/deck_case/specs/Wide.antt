@@ -1,5 +1,5 @@
 -- What is too wide for a case, and the line that names it.
-use Rattle.std.specs.Prelude.{◌≡◌, ◌≤◌, ◌<◌, ℕ, ℤ, ◌+ℤ◌, ◌-ℤ◌, ◌^◌, ◌++◌, pos, Bool, true, false, nat_lt, List, [], ◌∷◌, Option, None, Some, MatchOption, map, unsigned_abs, if◌then◌else◌}
+use Rattle.std.specs.Prelude.{◌≡◌, ◌≤◌, ◌≤ℤ◌, ◌<◌, ℕ, ℤ, ◌+ℤ◌, ◌-ℤ◌, ◌^◌, ◌++◌, pos, Bool, true, false, nat_lt, List, [], ◌∷◌, Option, None, Some, MatchOption, map, unsigned_abs, if◌then◌else◌}
 use Rattle.std.specs.Int.{◌∣◌}
 use Rattle.std.specs.List.{enumerate_from, flat_map, list_any}
 use Rattle.std.specs.Option.{option_map, option_map_or, option_to_list}
@@ -32,9 +32,11 @@ has_wide numbers = list_any is_wide numbers
 abbrev pub IsNarrowMultiplier : List Fraction → Option ℕ → Type 0
 IsNarrowMultiplier fs found = MatchOption found (2 ^ 52 < multiplier fs) (λ m. (m ≡ multiplier fs) × (m ≤ 2 ^ 52))
 
--- the multiplier makes the number whole, and the denominator is one that a deck can have
-abbrev pub IsClearedBy : ℕ → Fraction → Type 0
-IsClearedBy m f = (unsigned_abs f.den ∣ m) × (unsigned_abs f.den ≤ 10 ^ 18)
+-- the multiplier clears the number, whose denominator is one that a deck can have
+pub record IsClearedBy (m : ℕ) (f : Fraction) : Type 0 where
+  pub positive : pos 1 ≤ℤ f.den
+  pub divides : unsigned_abs f.den ∣ m
+  pub small : unsigned_abs f.den ≤ 10 ^ 18
 
 -- the whole numbers of a constraint
 abbrev pub whole_numbers : Constraint → List ℤ

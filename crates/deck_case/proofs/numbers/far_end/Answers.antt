@@ -10,5 +10,5 @@ pub returns-then-unsigned_abs : goal.returns-then-unsigned_abs
 returns-then-unsigned_abs c =
     let fits : FitsSigned w128 c.num.result = search rules in
     let t = times c.args.multiplier c.args.range in
-    let size : c.unsigned_abs.result ≤ unsigned_abs (times c.args.multiplier c.args.range) = times_wide c.args.multiplier c.unsigned_abs.result c.args.range c.num.result c.requires.positive c.num.ensures.lowest.positive c.requires.clears.0 c.num.ensures.value fits c.unsigned_abs.ensures.value in
+    let size : c.unsigned_abs.result ≤ unsigned_abs (times c.args.multiplier c.args.range) = times_wide c.args.multiplier c.unsigned_abs.result c.args.range c.num.result c.requires.positive c.num.ensures.lowest.positive c.requires.clears.divides c.num.ensures.value fits c.unsigned_abs.ensures.value in
     sym (narrow_wide (far_end c.args.near c.args.down t) (far_wide c.args.near t c.args.down c.requires.near (omega (arith, size, c.if-unsigned_abs.true))))
