@@ -7,3 +7,5 @@ pub mod MultiplierSteps
 pub mod TermSteps
 pub mod SideSteps
 pub mod RowSteps
+pub mod Numbered
+pub mod BoundSteps

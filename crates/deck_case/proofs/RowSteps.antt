@@ -72,11 +72,11 @@ pub negated_wide : (ts : Terms) → has_wide (coefficients (negated ts)) ≡ has
 negated_wide [] = refl
 negated_wide (t ∷ ts) = ap (λ b. b || has_wide (coefficients (negated ts))) (negative_wide t.1) ∙ ap (λ b. is_wide t.1 || b) (negated_wide ts)
 
-or_left_false : (a b : Bool) → (a || b) ≡ false → a ≡ false
+pub or_left_false : (a b : Bool) → (a || b) ≡ false → a ≡ false
 or_left_false true b h = h
 or_left_false false b h = refl
 
-or_right_false : (a b : Bool) → (a || b) ≡ false → b ≡ false
+pub or_right_false : (a b : Bool) → (a || b) ≡ false → b ≡ false
 or_right_false true b h = absurd (cc)
 or_right_false false b h = h
 
