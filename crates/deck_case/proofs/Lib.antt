@@ -9,3 +9,4 @@ pub mod SideSteps
 pub mod RowSteps
 pub mod Numbered
 pub mod BoundSteps
+pub mod TermFacts
