@@ -10,3 +10,4 @@ pub mod RowSteps
 pub mod Numbered
 pub mod BoundSteps
 pub mod TermFacts
+pub mod BodySteps
