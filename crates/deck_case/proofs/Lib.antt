@@ -11,3 +11,5 @@ pub mod Numbered
 pub mod BoundSteps
 pub mod TermFacts
 pub mod BodySteps
+pub mod Places
+pub mod PairSteps

@@ -37,7 +37,7 @@ first_kept xs ys (NoMemory e) h = tt
 first_kept [] ys (RowWide l) h = absurd (cc)
 first_kept (x ∷ xs) ys (RowWide l) h = h
 
-flat-split : {X A : Type 0} (f : X → List A) (xs : List X) (k : ℕ) → flat_map f xs ≡ flat_map f (take k xs) ++ flat_map f (drop k xs)
+pub flat-split : {X A : Type 0} (f : X → List A) (xs : List X) (k : ℕ) → flat_map f xs ≡ flat_map f (take k xs) ++ flat_map f (drop k xs)
 flat-split f xs k = ap (flat_map f) (sym (take-append-drop k xs)) ∙ flat_map-append f (take k xs) (drop k xs)
 
 -- where the lines before are none, the first of the next ones is the first of all
