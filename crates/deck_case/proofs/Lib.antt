@@ -13,3 +13,4 @@ pub mod TermFacts
 pub mod BodySteps
 pub mod Places
 pub mod PairSteps
+pub mod CaseFacts
