@@ -14,3 +14,8 @@ pub mod BodySteps
 pub mod Places
 pub mod PairSteps
 pub mod CaseFacts
+pub mod RationalLaws
+pub mod CostSums
+pub mod DeckMeaning
+pub mod Feasibility
+pub mod FaultLaws

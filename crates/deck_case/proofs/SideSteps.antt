@@ -20,7 +20,7 @@ use Rattle.deck_case.proofs.Wholes.{times_is, times_whole}
 
 -- ---- sums of fractions, times a multiplier that clears both
 
-positive_product : (a b : ℤ) → pos 1 ≤ℤ a → pos 1 ≤ℤ b → pos 1 ≤ℤ (a *ℤ b)
+pub positive_product : (a b : ℤ) → pos 1 ≤ℤ a → pos 1 ≤ℤ b → pos 1 ≤ℤ (a *ℤ b)
 positive_product (pos a) (pos b) h k =
     let p : 1 ≤ a = omega (arith, ints, h) in
     let q : 1 ≤ b = omega (arith, ints, k) in
@@ -30,7 +30,7 @@ positive_product (negsuc a) b h k = absurd (omega (arith, ints))
 positive_product (pos a) (negsuc b) h k = absurd (omega (arith, ints))
 
 -- (t + s) B R is the numerator of the sum times M
-cross : (t s b r n k m : ℤ) → t *ℤ b ≡ n *ℤ m → s *ℤ r ≡ k *ℤ m → (t +ℤ s) *ℤ (b *ℤ r) ≡ ((n *ℤ r) +ℤ (k *ℤ b)) *ℤ m
+pub cross : (t s b r n k m : ℤ) → t *ℤ b ≡ n *ℤ m → s *ℤ r ≡ k *ℤ m → (t +ℤ s) *ℤ (b *ℤ r) ≡ ((n *ℤ r) +ℤ (k *ℤ b)) *ℤ m
 cross t s b r n k m e f =
     let first : t *ℤ (b *ℤ r) ≡ (n *ℤ r) *ℤ m = sym (mul_assoc t b r) ∙ ap (λ z. z *ℤ r) e ∙ mul_swap n m r in
     let second : s *ℤ (b *ℤ r) ≡ (k *ℤ b) *ℤ m = ap (λ z. s *ℤ z) (mul_comm b r) ∙ sym (mul_assoc s r b) ∙ ap (λ z. z *ℤ b) f ∙ mul_swap k m b in
@@ -44,7 +44,7 @@ times_plus m f g p q =
     times_is m (plus f g) (times m f +ℤ times m g) (positive_product f.den g.den p.positive q.positive)
     (cross (times m f) (times m g) f.den g.den f.num g.num (pos m) (times_whole m f p.positive p.divides) (times_whole m g q.positive q.divides))
 
-negated_product : (a b : ℤ) → neg_ℤ a *ℤ b ≡ neg_ℤ (a *ℤ b)
+pub negated_product : (a b : ℤ) → neg_ℤ a *ℤ b ≡ neg_ℤ (a *ℤ b)
 negated_product a b =
     let none : a +ℤ neg_ℤ a ≡ pos 0 = omega (arith, ints) in
     let parts : (a *ℤ b) +ℤ (neg_ℤ a *ℤ b) ≡ pos 0 = sym (mul_add_right b a (neg_ℤ a)) ∙ ap (λ z. z *ℤ b) none ∙ zero-*ℤ b in

@@ -40,7 +40,7 @@ times_is m f w some e =
     own_divisor : (n : ℕ) → n ∣ n
     own_divisor n = subst (λ k. n ∣ k) (omega arith) (dvd-mul_right n 1)
 
-positive_den : (d : ℤ) → pos 1 ≤ℤ d → d ≡ pos (unsigned_abs d)
+pub positive_den : (d : ℤ) → pos 1 ≤ℤ d → d ≡ pos (unsigned_abs d)
 positive_den (pos d) h = refl
 positive_den (negsuc d) h = absurd (omega (arith, ints))
 
