@@ -4,21 +4,10 @@ use Rattle.std.specs.Borrow.{Bor}
 use Rattle.std.specs.List.{prefix_len}
 use Rattle.std.proofs.lemmas.List.{nil_from_length, take_all}
 use Rattle.mps_lex.specs.Shown.{shown}
-use Rattle.mps_lex.specs.Lines.{pieces, onto_first, ends_with, without_end}
+use Rattle.mps_lex.specs.Lines.{pieces, onto_first, without_end}
 use Rattle.mps_lex.specs.Kinds.{is_blank, fields, onto_field}
 
 -- ---- the last byte
-
-pub last_is : (c : ℕ) (text : List ℕ) (m : ℕ) → length text ≡ suc m → eqb (get_or text m 0) c ≡ ends_with c text
-last_is c [] m e = absurd (omega (arith, e))
-last_is c (b ∷ []) zero e = refl
-last_is c (b ∷ []) (suc m) e = absurd (omega (arith, e))
-last_is c (b ∷ d ∷ bs) zero e = absurd (omega (arith, e))
-last_is c (b ∷ d ∷ bs) (suc m) e = last_is c (d ∷ bs) m (omega (arith, e))
-
-pub none_last : (c : ℕ) (text : List ℕ) → length text ≡ 0 → false ≡ ends_with c text
-none_last c [] e = refl
-none_last c (b ∷ bs) e = absurd (omega (arith, e))
 
 pub cut_yes : (c : ℕ) (text : List ℕ) (m : ℕ) → length text ≡ suc m → eqb (get_or text m 0) c ≡ true → take m text ≡ without_end c text
 cut_yes c [] m e h = absurd (omega (arith, e))

@@ -1,10 +1,10 @@
 -- Fields, and what kind of line bytes are.
 use Rattle.std.specs.Prelude.{ℕ, Bool, true, ◌||◌, ◌==◌, codes, if◌then◌else◌, List, [], ◌∷◌, Option, Some, None}
 use Rattle.std.specs.Str.{bytes_eq}
-use Rattle.mps_lex.specs.declared.lines.Section.{Section}
-use Rattle.mps_lex.specs.declared.lines.Section.TheVariants.{Name as NameSection, Rows, Columns, Rhs, Ranges, Bounds, Pairs, Endata}
-use Rattle.mps_lex.specs.declared.lines.LineKind.{LineKind}
-use Rattle.mps_lex.specs.declared.lines.LineKind.TheVariants.{Blank, Comment, Head, LeftOut, Unknown, Entry}
+use Rattle.mps_lex.specs.declared.line.Section.{Section}
+use Rattle.mps_lex.specs.declared.line.Section.TheVariants.{Name as NameSection, Rows, Columns, Rhs, Ranges, Bounds, Pairs, Endata}
+use Rattle.mps_lex.specs.declared.line.LineKind.{LineKind}
+use Rattle.mps_lex.specs.declared.line.LineKind.TheVariants.{Blank, Comment, Head, LeftOut, Unknown, Entry}
 
 -- the bytes of a field
 abbrev pub Name : Type 0

@@ -1,3 +1,4 @@
 pub mod Lines
 pub mod Kinds
+pub mod Places
 pub mod Shown

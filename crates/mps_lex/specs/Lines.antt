@@ -1,7 +1,7 @@
 -- How a text falls into lines, and a line into fields.
-use Rattle.std.specs.Prelude.{ℕ, ◌+◌, Bool, false, not, ◌&&◌, ◌==◌, if◌then◌else◌, List, [], ◌∷◌, length}
-use Rattle.mps_lex.specs.declared.lines.LineKind.{LineKind}
-use Rattle.mps_lex.specs.Kinds.{Name, is_blank, fields, kind_of}
+use Rattle.std.specs.Prelude.{ℕ, ◌+◌, ◌==◌, if◌then◌else◌, List, [], ◌∷◌, length}
+use Rattle.mps_lex.specs.declared.line.LineKind.{LineKind}
+use Rattle.mps_lex.specs.Kinds.{Name, fields, kind_of}
 
 -- a byte at the front of the first piece
 abbrev pub onto_first : ℕ → List (List ℕ) → List (List ℕ)
@@ -13,11 +13,6 @@ abbrev pub pieces : List ℕ → List (List ℕ)
 pieces [] = []
 pieces (b ∷ bs) = if b == 10 then (b ∷ []) ∷ pieces bs else onto_first b (pieces bs)
 
-abbrev pub ends_with : ℕ → List ℕ → Bool
-ends_with c [] = false
-ends_with c (b ∷ []) = b == c
-ends_with c (b ∷ d ∷ bs) = ends_with c (d ∷ bs)
-
 -- without its last byte, where that is c
 abbrev pub without_end : ℕ → List ℕ → List ℕ
 without_end c [] = []
@@ -28,22 +23,11 @@ without_end c (b ∷ d ∷ bs) = b ∷ without_end c (d ∷ bs)
 abbrev pub content : List ℕ → List ℕ
 content piece = without_end 13 (without_end 10 piece)
 
--- an LF ends the piece, and no CR stands before it
-abbrev pub ends_by_lf_alone : List ℕ → Bool
-ends_by_lf_alone piece = ends_with 10 piece && not (ends_with 13 (without_end 10 piece))
-
-abbrev pub begins_blank : List ℕ → Bool
-begins_blank [] = false
-begins_blank (b ∷ bs) = is_blank b
-
--- a line: its number from 1, what it is, its fields, whether it begins with a blank, whether an LF alone
--- ends it, and how many bytes it has with its end
+-- a line: its number from 1, what it is, its fields, and how many bytes it has with its end
 pub record Line : Type 0 where
   pub number : ℕ
   pub kind : LineKind
   pub fields : List Name
-  pub indented : Bool
-  pub lf_alone : Bool
   pub size : ℕ
 
 abbrev pub line_of : ℕ → List ℕ → Line
@@ -51,8 +35,6 @@ line_of number piece = record {
   number = number;
   kind = kind_of (content piece);
   fields = fields (content piece);
-  indented = begins_blank (content piece);
-  lf_alone = ends_by_lf_alone piece;
   size = length piece;
 }
 

@@ -3,7 +3,7 @@ ghost use Rattle.std.specs.Prelude.{◌≡◌, map};
 ghost use Rattle.mps_lex.specs.Kinds.{section_named, is_left_out, kind_alone, kind_at_margin, kind_indented, kind_of, fields};
 ghost use Rattle.mps_lex.specs.Shown.{shown};
 
-use crate::lines::{LineKind, Section};
+use crate::line::{LineKind, Section};
 use crate::split::is_blank;
 
 #[tactic(auto, unfolding(crate::specs::Kinds::section_named))]

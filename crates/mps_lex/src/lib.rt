@@ -2,8 +2,11 @@
 #![tactic(auto)]
 
 mod kinds;
-mod lines;
+mod laws;
+mod line;
+mod places;
 mod split;
 
-pub use lines::{Line, LineKind, Section, line_of};
+pub use laws::fields_are_slices;
+pub use line::{Line, LineKind, Section, SplitLine, line_of, lines};
 pub use split::first_piece;

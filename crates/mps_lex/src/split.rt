@@ -1,7 +1,7 @@
 //! How a text falls into pieces, and a piece into fields.
 ghost use Rattle.std.specs.Prelude.{◌≡◌, ◌<◌, ◌≤◌, ◌+◌, ◌++◌, ◌∷◌, ◌==◌, not, IfOk, map, length};
 ghost use Rattle.std.specs.List.{prefix_len};
-ghost use Rattle.mps_lex.specs.Lines.{pieces, ends_with, without_end};
+ghost use Rattle.mps_lex.specs.Lines.{pieces, without_end};
 ghost use Rattle.mps_lex.specs.Kinds.{is_blank, fields};
 ghost use Rattle.mps_lex.specs.Shown.{shown};
 
@@ -26,8 +26,8 @@ fn line_len(text: &[u8]) -> usize
     at
 }
 
-// How many bytes stand before the first blank.
-fn run_len(text: &[u8]) -> usize
+/// How many bytes stand before the first blank.
+pub fn run_len(text: &[u8]) -> usize
     ensures len { result ≡ prefix_len (λ b. not (is_blank b)) text.now }
     ensures within { result ≤ length text.now }
 {
@@ -50,13 +50,6 @@ pub fn first_piece(text: &[u8]) -> (&[u8], &[u8])
         return text.split_at(len + 1);
     }
     text.split_at(len)
-}
-
-/// Whether this byte is the last.
-pub fn ends_with(byte: u8, text: &[u8]) -> bool
-    ensures { result ≡ ends_with byte text.now }
-{
-    !text.is_empty() && text[text.len() - 1] == byte
 }
 
 /// The text without its last byte, where that is this byte.

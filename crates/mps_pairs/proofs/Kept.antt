@@ -9,10 +9,10 @@ use Rattle.std.specs.Str.{bytes_eq}
 use Rattle.lp_base.specs.Ascending.{ascends_by}
 use Rattle.mps_lex.specs.Kinds.{Name as Word}
 use Rattle.mps_lex.specs.Lines.{Line}
-use Rattle.mps_lex.specs.declared.lines.Section.{Section}
-use Rattle.mps_lex.specs.declared.lines.Section.TheVariants.{Name, Rows, Columns, Rhs, Ranges, Bounds, Pairs, Endata}
-use Rattle.mps_lex.specs.declared.lines.LineKind.{LineKind}
-use Rattle.mps_lex.specs.declared.lines.LineKind.TheVariants.{Blank, Comment, Head, LeftOut, Unknown, Entry}
+use Rattle.mps_lex.specs.declared.line.Section.{Section}
+use Rattle.mps_lex.specs.declared.line.Section.TheVariants.{Name, Rows, Columns, Rhs, Ranges, Bounds, Pairs, Endata}
+use Rattle.mps_lex.specs.declared.line.LineKind.{LineKind}
+use Rattle.mps_lex.specs.declared.line.LineKind.TheVariants.{Blank, Comment, Head, LeftOut, Unknown, Entry}
 use Rattle.mps_pairs.specs.declared.deck.Deck.{Deck}
 use Rattle.mps_pairs.specs.declared.deck.Row as rows
 use Rattle.mps_pairs.specs.declared.deck.Entry as entries

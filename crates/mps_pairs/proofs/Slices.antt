@@ -1,7 +1,7 @@
 -- What stands open, and the slices of lines, when one more line is read.
 use Rattle.std.proofs.Common.{◌+◌, ◌≡◌, List, [], ◌∷◌, ◌++◌, refl, sym, ap, ◌∙◌, append_assoc, arith}
 use Rattle.std.proofs.lemmas.List.{append-nil}
-use Rattle.mps_lex.specs.declared.lines.Section.{Section}
+use Rattle.mps_lex.specs.declared.line.Section.{Section}
 use Rattle.mps_lex.specs.Lines.{Line}
 use Rattle.mps_pairs.specs.Sections.{Open, behind, open_from, data_line, slice_from}
 use Rattle.mps_pairs.specs.Spelling.{size_of}

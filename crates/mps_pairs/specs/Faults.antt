@@ -5,10 +5,10 @@ use Rattle.std.specs.Prelude.{ℕ, ◌+◌, Bool, not, ◌&&◌, ◌||◌, nat_l
 use Rattle.std.specs.Str.{bytes_eq}
 use Rattle.mps_lex.specs.Kinds.{Name}
 use Rattle.mps_lex.specs.Lines.{Line}
-use Rattle.mps_lex.specs.declared.lines.Section.{Section}
-use Rattle.mps_lex.specs.declared.lines.Section.TheVariants as section
-use Rattle.mps_lex.specs.declared.lines.LineKind.{LineKind}
-use Rattle.mps_lex.specs.declared.lines.LineKind.TheVariants.{Blank, Comment, Head, LeftOut, Unknown, Entry}
+use Rattle.mps_lex.specs.declared.line.Section.{Section}
+use Rattle.mps_lex.specs.declared.line.Section.TheVariants as section
+use Rattle.mps_lex.specs.declared.line.LineKind.{LineKind}
+use Rattle.mps_lex.specs.declared.line.LineKind.TheVariants.{Blank, Comment, Head, LeftOut, Unknown, Entry}
 use Rattle.mps_pairs.specs.declared.fault.DeckWhy.{DeckWhy}
 use Rattle.mps_pairs.specs.declared.fault.DeckWhy.TheVariants.{UnknownSection, LeftOutSection, SectionOrder, FieldCount, RowLetter, PairKind, NameTwice, SecondSet, ColumnSplit, UnknownName, EntryTwice, NumberText, NoObjective, IntegerMarker, TooMany, NotYet}
 use Rattle.mps_pairs.specs.Names.{has, place, has_place, is_empty}

@@ -2,9 +2,9 @@
 use Rattle.std.specs.Prelude.{◌≡◌, ℕ, ℤ, List, [], ◌∷◌, ◌++◌, length, map, Option, Some, None, Result, Ok, Err}
 use Rattle.mps_lex.specs.Kinds.{Name}
 use Rattle.mps_lex.specs.Lines.{Line}
-use Rattle.mps_lex.specs.declared.lines.Section.TheVariants as section
-use Rattle.mps_lex.specs.declared.lines.LineKind.{LineKind}
-use Rattle.mps_lex.specs.declared.lines.LineKind.TheVariants.{Blank, Comment, Head, LeftOut, Unknown, Entry}
+use Rattle.mps_lex.specs.declared.line.Section.TheVariants as section
+use Rattle.mps_lex.specs.declared.line.LineKind.{LineKind}
+use Rattle.mps_lex.specs.declared.line.LineKind.TheVariants.{Blank, Comment, Head, LeftOut, Unknown, Entry}
 use Rattle.mps_pairs.specs.declared.fault.DeckWhy.{DeckWhy}
 use Rattle.mps_pairs.specs.declared.fault.DeckWhy.TheVariants.{SectionOrder, NotYet, UnknownSection, LeftOutSection}
 use Rattle.mps_pairs.specs.declared.fault.Fault.{Fault}

@@ -1,9 +1,9 @@
 -- The sections of a deck, and the slice of data lines of each.
 use Rattle.std.specs.Prelude.{ℕ, ◌+◌, Bool, true, false, ◌&&◌, ◌||◌, ◌==◌, nat_lt, nat_le, if◌then◌else◌, List, [], ◌∷◌, ◌++◌, Option, Some, None}
-use Rattle.mps_lex.specs.declared.lines.Section.{Section}
-use Rattle.mps_lex.specs.declared.lines.Section.TheVariants.{Name, Rows, Columns, Rhs, Ranges, Bounds, Pairs, Endata}
-use Rattle.mps_lex.specs.declared.lines.LineKind.{LineKind}
-use Rattle.mps_lex.specs.declared.lines.LineKind.TheVariants.{Blank, Comment, Head, LeftOut, Unknown, Entry}
+use Rattle.mps_lex.specs.declared.line.Section.{Section}
+use Rattle.mps_lex.specs.declared.line.Section.TheVariants.{Name, Rows, Columns, Rhs, Ranges, Bounds, Pairs, Endata}
+use Rattle.mps_lex.specs.declared.line.LineKind.{LineKind}
+use Rattle.mps_lex.specs.declared.line.LineKind.TheVariants.{Blank, Comment, Head, LeftOut, Unknown, Entry}
 use Rattle.mps_lex.specs.Lines.{Line}
 
 abbrev pub rank : Section → ℕ

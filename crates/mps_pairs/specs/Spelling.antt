@@ -5,7 +5,7 @@ use Rattle.std.specs.Str.{bytes_eq}
 use Rattle.std.specs.Prelude.{codes}
 use Rattle.mps_lex.specs.Kinds.{Name}
 use Rattle.mps_lex.specs.Lines.{Line}
-use Rattle.mps_lex.specs.declared.lines.Section.TheVariants.{Rows, Columns, Rhs, Pairs}
+use Rattle.mps_lex.specs.declared.line.Section.TheVariants.{Rows, Columns, Rhs, Pairs}
 use Rattle.mps_pairs.specs.declared.deck.Deck.{Deck}
 use Rattle.mps_pairs.specs.declared.deck.Row.{Row}
 use Rattle.mps_pairs.specs.declared.deck.Entry.{Entry}

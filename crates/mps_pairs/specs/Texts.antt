@@ -1,9 +1,9 @@
 -- Which deck a text spells, and which fault is its first.
 use Rattle.std.specs.Prelude.{◌≡◌, ℕ, ◌+◌, ◌⊎◌, Bool, true, false, List, [], ◌∷◌, ◌++◌, length, Option, None, Some, Result, Ok, Err, if◌then◌else◌}
 use Rattle.mps_lex.specs.Lines.{Line, lines_of}
-use Rattle.mps_lex.specs.declared.lines.LineKind.{LineKind}
-use Rattle.mps_lex.specs.declared.lines.LineKind.TheVariants.{Blank, Comment, Head, LeftOut, Unknown, Entry}
-use Rattle.mps_lex.specs.declared.lines.Section.TheVariants.{Endata}
+use Rattle.mps_lex.specs.declared.line.LineKind.{LineKind}
+use Rattle.mps_lex.specs.declared.line.LineKind.TheVariants.{Blank, Comment, Head, LeftOut, Unknown, Entry}
+use Rattle.mps_lex.specs.declared.line.Section.TheVariants.{Endata}
 use Rattle.mps_pairs.specs.declared.deck.Deck.{Deck}
 use Rattle.mps_pairs.specs.declared.fault.DeckWhy.{DeckWhy}
 use Rattle.mps_pairs.specs.declared.fault.DeckWhy.TheVariants.{NotClosed}
