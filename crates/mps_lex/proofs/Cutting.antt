@@ -32,7 +32,7 @@ cut_nil c (b ∷ bs) h = absurd (omega (arith, h))
 abbrev in_line : ℕ → Bool
 in_line b = not (eqb b 10)
 
-one : (n : ℕ) → 1 + n ≡ suc n
+pub one : (n : ℕ) → 1 + n ≡ suc n
 one n = omega arith
 
 by_lf : (lf : Bool) (b : ℕ) (bs : List ℕ) (n : ℕ) → onto_first b (pieces bs) ≡ (b ∷ take (1 + n) bs) ∷ pieces (drop (1 + n) bs)
@@ -78,7 +78,7 @@ pub map_push : (ks : List (Bor (List ℕ))) (k : Bor (List ℕ)) → map shown (
 map_push [] k = refl
 map_push (x ∷ ks) k = rw (map_push ks k) refl
 
-abbrev in_field : ℕ → Bool
+abbrev pub in_field : ℕ → Bool
 in_field b = not (is_blank b)
 
 by_next : (blank : Bool) (b c : ℕ) (cs : List ℕ) (m : ℕ) → (blank ≡ false → fields (c ∷ cs) ≡ (c ∷ take m cs) ∷ fields (drop m cs))
@@ -86,7 +86,7 @@ by_next : (blank : Bool) (b c : ℕ) (cs : List ℕ) (m : ℕ) → (blank ≡ fa
 by_next true b c cs m h = refl
 by_next false b c cs m h = subst (λ (k : ℕ). onto_field b (fields (c ∷ cs)) ≡ (b ∷ take k (c ∷ cs)) ∷ fields (drop k (c ∷ cs))) (sym (one m)) (ap (onto_field b) (h refl))
 
-not_blank : {X : Type 0} (blank : Bool) (x y : X) → blank ≡ false → cond blank x y ≡ y
+pub not_blank : {X : Type 0} (blank : Bool) (x y : X) → blank ≡ false → cond blank x y ≡ y
 not_blank true x y h = absurd cc
 not_blank false x y h = refl
 
@@ -95,7 +95,7 @@ field_front : (b : ℕ) (bs : List ℕ) → is_blank b ≡ false → fields (b �
 field_front b [] h = not_blank (is_blank b) _ _ h
 field_front b (c ∷ cs) h = not_blank (is_blank b) _ _ h ∙ by_next (is_blank c) b c cs (prefix_len in_field cs) (λ e. field_front c cs e)
 
-counted : (blank : Bool) (m : ℕ) → blank ≡ false → cond (not blank) (1 + m) 0 ≡ suc m
+pub counted : (blank : Bool) (m : ℕ) → blank ≡ false → cond (not blank) (1 + m) 0 ≡ suc m
 counted true m h = absurd cc
 counted false m h = one m
 

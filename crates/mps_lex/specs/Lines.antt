@@ -1,5 +1,5 @@
 -- How a text falls into lines, and a line into fields.
-use Rattle.std.specs.Prelude.{ℕ, ◌+◌, ◌==◌, if◌then◌else◌, List, [], ◌∷◌, length}
+use Rattle.std.specs.Prelude.{ℕ, ◌+◌, Bool, false, ◌==◌, if◌then◌else◌, List, [], ◌∷◌, length}
 use Rattle.mps_lex.specs.declared.line.LineKind.{LineKind}
 use Rattle.mps_lex.specs.Kinds.{Name, fields, kind_of}
 
@@ -12,6 +12,12 @@ onto_first b (p ∷ ps) = (b ∷ p) ∷ ps
 abbrev pub pieces : List ℕ → List (List ℕ)
 pieces [] = []
 pieces (b ∷ bs) = if b == 10 then (b ∷ []) ∷ pieces bs else onto_first b (pieces bs)
+
+-- whether the last byte is c
+abbrev pub ends_with : ℕ → List ℕ → Bool
+ends_with c [] = false
+ends_with c (b ∷ []) = b == c
+ends_with c (b ∷ d ∷ bs) = ends_with c (d ∷ bs)
 
 -- without its last byte, where that is c
 abbrev pub without_end : ℕ → List ℕ → List ℕ

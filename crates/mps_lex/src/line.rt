@@ -1,5 +1,5 @@
 //! Lines: their kinds and fields.
-ghost use Rattle.std.specs.Prelude.{◌≡◌, ◌<◌, ◌+◌, ◌^◌, ◌++◌, IfOk, length};
+ghost use Rattle.std.specs.Prelude.{◌≡◌, ◌<◌, ◌≤◌, ◌+◌, ◌-◌, ◌^◌, IfOk, length};
 ghost use Rattle.mps_lex.specs.Lines.{content, line_of};
 ghost use Rattle.mps_lex.specs.Places.{placed_line, placed_lines};
 ghost use Rattle.mps_lex.specs.Shown.{seen_line};
@@ -64,6 +64,7 @@ pub struct SplitLine<'a> {
 // A piece of a text without its end.
 fn content_of(piece: &[u8]) -> &[u8]
     ensures value { result.now ≡ content piece.now }
+    ensures within { length result.now ≤ length piece.now }
 {
     without_end(b'\r', without_end(b'\n', piece))
 }

@@ -20,10 +20,10 @@ pub fn places_of(alloc: Global, at: u32, text: &[u8]) -> Result<Sequence<(u32, u
             rest = &rest[1..];
             from += 1;
         } else {
-            let len = run_len(rest);
-            let end = from + len as u32;
+            let (field, after) = rest.split_at(run_len(rest));
+            let end = from + field.len() as u32;
             found.push((from, end))?;
-            rest = &rest[len..];
+            rest = after;
             from = end;
         }
     }

@@ -54,7 +54,8 @@ pub fn first_piece(text: &[u8]) -> (&[u8], &[u8])
 
 /// The text without its last byte, where that is this byte.
 pub fn without_end(byte: u8, text: &[u8]) -> &[u8]
-    ensures { result.now ≡ without_end byte text.now }
+    ensures value { result.now ≡ without_end byte text.now }
+    ensures within { length result.now ≤ length text.now }
 {
     if !text.is_empty() && text[text.len() - 1] == byte {
         return &text[..text.len() - 1];

@@ -1,7 +1,5 @@
--- The fault of a line: that line and the lines before it decide. What is read so far are thin decks: the heads NAME,
--- ROWS, COLUMNS, RHS, PAIRS and ENDATA, each once and in this order, N in the first row and G in each other, one entry
--- a line, whole numbers, and lines that end with LF alone. What the format has besides is the fault NotYet.
-use Rattle.std.specs.Prelude.{ℕ, ◌+◌, Bool, not, ◌&&◌, ◌||◌, nat_le, nat_lt, is_none, codes, if◌then◌else◌, List, [], ◌∷◌, ◌++◌, length, map, Option, Some, None}
+-- The fault of a line: that line and the lines before it decide.
+use Rattle.std.specs.Prelude.{ℕ, ◌+◌, Bool, not, ◌&&◌, ◌||◌, nat_le, nat_lt, is_some, codes, if◌then◌else◌, List, [], ◌∷◌, ◌++◌, length, Option, Some, None, option_map}
 use Rattle.std.specs.Str.{bytes_eq}
 use Rattle.mps_lex.specs.Kinds.{Name}
 use Rattle.mps_lex.specs.Lines.{Line}
@@ -9,16 +7,20 @@ use Rattle.mps_lex.specs.declared.line.Section.{Section}
 use Rattle.mps_lex.specs.declared.line.Section.TheVariants as section
 use Rattle.mps_lex.specs.declared.line.LineKind.{LineKind}
 use Rattle.mps_lex.specs.declared.line.LineKind.TheVariants.{Blank, Comment, Head, LeftOut, Unknown, Entry}
+use Rattle.mps_pairs.specs.declared.bounds.BoundKind.{BoundKind}
 use Rattle.mps_pairs.specs.declared.fault.DeckWhy.{DeckWhy}
-use Rattle.mps_pairs.specs.declared.fault.DeckWhy.TheVariants.{UnknownSection, LeftOutSection, SectionOrder, FieldCount, RowLetter, PairKind, NameTwice, SecondSet, ColumnSplit, UnknownName, EntryTwice, NumberText, NoObjective, IntegerMarker, TooMany, NotYet}
-use Rattle.mps_pairs.specs.Names.{has, place, has_place, is_empty}
-use Rattle.mps_pairs.specs.Numbers.{number_of}
-use Rattle.mps_pairs.specs.Sections.{Open, is_open, is_entry, open_behind, slice, may_follow, is_next}
-use Rattle.mps_pairs.specs.Spelling.{row_names, column_names, entries_in, entry_place, rights_in, given_names, set_of, pair_names}
+use Rattle.mps_pairs.specs.declared.fault.DeckWhy.TheVariants.{UnknownSection, LeftOutSection, SectionOrder, FieldCount, RowLetter, BoundKind as BoundKindWhy, NameTwice, UnknownName, EntryTwice, ColumnSplit, SecondSet, NoObjective, IntegerMarker, UpperBelowZero, PairKind, PairLower, TooMany}
+use Rattle.mps_pairs.specs.declared.deck.Column.{Column}
+use Rattle.mps_pairs.specs.Decks.{is_inequality}
+use Rattle.mps_pairs.specs.Names.{has, place}
+use Rattle.mps_pairs.specs.Numbers.{text_fault, is_zero}
+use Rattle.mps_pairs.specs.Sections.{Open, is_open, open_behind, open_rank, is_begun, slice, may_follow}
+use Rattle.mps_pairs.specs.Spelling.{RowLine, rows_of, row_names, row_named, has_objective, other_rows, is_n, letter_of, Given, NamedEntry, in_column, entries_in, rows_in, column_names, given_set, given_rows, givens_in, first_set, pair_names, is_col}
+use Rattle.mps_pairs.specs.Bounds.{bound_kind, takes_value, BoundWords, bound_words, bound_set, Setting, settings_in, column_bounds, upper_below_zero}
 
 -- the first of two faults
 infixr 5 ◌or◌
-abbrev pub ◌or◌ : Option DeckWhy → Option DeckWhy → Option DeckWhy
+abbrev pub ◌or◌ : {X : Type 0} → Option X → Option X → Option X
 (Some w) or other = Some w
 None or other = other
 
@@ -30,96 +32,125 @@ fault_if b w = if b then Some w else None
 abbrev pub is_letter : Name → Bool
 is_letter w = bytes_eq w (codes "N") || bytes_eq w (codes "E") || bytes_eq w (codes "L") || bytes_eq w (codes "G")
 
--- a thin deck has N in its first row, and G in each other
-abbrev pub is_thin_letter : List Name → Name → Bool
-is_thin_letter rows w = if is_empty rows then bytes_eq w (codes "N") else bytes_eq w (codes "G")
+-- one row other than N rows too many
+abbrev pub many_rows_fault : List RowLine → Name → Option DeckWhy
+many_rows_fault rows l = fault_if (not (is_n (letter_of l)) && nat_le 2000 (other_rows rows)) TooMany
 
--- a line of ROWS, below these rows: the objective and 2,000 others are as many as there may be
-abbrev pub row_fault : List Name → List Name → Option DeckWhy
-row_fault rows (l ∷ n ∷ []) =
-    fault_if (not (is_letter l)) RowLetter or fault_if (not (is_thin_letter rows l)) NotYet or fault_if (has rows n) NameTwice
-    or fault_if (nat_le 2001 (length rows)) TooMany
+-- a line of ROWS, below these rows
+abbrev pub row_fault : List RowLine → List Name → Option DeckWhy
+row_fault rows (l ∷ n ∷ []) = fault_if (not (is_letter l)) RowLetter or fault_if (has (row_names rows) n) NameTwice or many_rows_fault rows l
 row_fault rows [] = Some FieldCount
 row_fault rows (l ∷ []) = Some FieldCount
 row_fault rows (l ∷ n ∷ m ∷ fs) = Some FieldCount
 
 -- ---- COLUMNS
 
-abbrev pub marker_fault : Name → Option DeckWhy
-marker_fault r = fault_if (bytes_eq r (codes "'MARKER'")) IntegerMarker
+-- a marker of integer columns, whatever else the line has
+abbrev pub marker_fault : List Name → Option DeckWhy
+marker_fault [] = None
+marker_fault (c ∷ []) = None
+marker_fault (c ∷ r ∷ fs) = fault_if (bytes_eq r (codes "'MARKER'")) IntegerMarker
 
 -- a column's name stands already, but not as the last one
 abbrev pub split_fault : List Name → Name → Option DeckWhy
 split_fault columns c = fault_if (nat_lt (place columns c + 1) (length columns)) ColumnSplit
 
--- what is judged of a column's line before its entry
-abbrev pub front_fault : List Name → Name → Name → Option DeckWhy
-front_fault columns c r = marker_fault r or split_fault columns c
+-- a row with its value in a column, where the column has entries in these rows
+abbrev pub entry_fault : List RowLine → List Name → Name → Name → Option DeckWhy
+entry_fault rows given r v = fault_if (not (has (row_names rows) r)) UnknownName or fault_if (has given r) EntryTwice or text_fault v
 
--- a row with its value in a column, below these rows and columns and the places of the entries so far
-abbrev pub entry_fault : List Name → List Name → List (ℕ × ℕ) → Name → Name → Name → Option DeckWhy
-entry_fault rows columns given c r v =
-    fault_if (not (has rows r)) UnknownName or fault_if (has_place given (place columns c, place rows r)) EntryTwice
-    or fault_if (is_none (number_of v)) NumberText
+-- one column too many, or one of so many further entries
+abbrev pub full_fault : List Name → ℕ → Name → ℕ → Option DeckWhy
+full_fault columns entries c more = fault_if ((not (has columns c) && nat_le 1000 (length columns)) || nat_lt 200000 (entries + more)) TooMany
 
--- one column or one entry too many
-abbrev pub full_fault : List Name → List (ℕ × ℕ) → Name → Option DeckWhy
-full_fault columns given c = fault_if ((not (has columns c) && nat_le 1000 (length columns)) || nat_le 200000 (length given)) TooMany
+-- the count of fields, the column and its entries, below these rows, columns and entries
+abbrev pub column_words_fault : List RowLine → List Name → List NamedEntry → List Name → Option DeckWhy
+column_words_fault rows columns es (c ∷ r ∷ v ∷ []) =
+    split_fault columns c or entry_fault rows (rows_in c es) r v or full_fault columns (length es) c 1
+column_words_fault rows columns es (c ∷ r ∷ v ∷ s ∷ w ∷ []) =
+    split_fault columns c or entry_fault rows (rows_in c es) r v or entry_fault rows (rows_in c es ++ r ∷ []) s w
+    or full_fault columns (length es) c 2
+column_words_fault rows columns es [] = Some FieldCount
+column_words_fault rows columns es (c ∷ []) = Some FieldCount
+column_words_fault rows columns es (c ∷ r ∷ []) = Some FieldCount
+column_words_fault rows columns es (c ∷ r ∷ v ∷ s ∷ []) = Some FieldCount
+column_words_fault rows columns es (c ∷ r ∷ v ∷ s ∷ w ∷ x ∷ fs) = Some FieldCount
 
-abbrev pub column_fault : List Name → List Name → List (ℕ × ℕ) → List Name → Option DeckWhy
-column_fault rows columns given (c ∷ r ∷ v ∷ []) = front_fault columns c r or entry_fault rows columns given c r v or full_fault columns given c
-column_fault rows columns given [] = Some FieldCount
-column_fault rows columns given (c ∷ []) = Some FieldCount
-column_fault rows columns given (c ∷ r ∷ []) = marker_fault r or Some FieldCount
-column_fault rows columns given (c ∷ r ∷ v ∷ s ∷ []) = marker_fault r or Some FieldCount
-column_fault rows columns given (c ∷ r ∷ v ∷ s ∷ w ∷ []) = marker_fault r or Some NotYet
-column_fault rows columns given (c ∷ r ∷ v ∷ s ∷ w ∷ x ∷ fs) = marker_fault r or Some FieldCount
+abbrev pub column_fault : List RowLine → List Name → List NamedEntry → List Name → Option DeckWhy
+column_fault rows columns es fs = marker_fault fs or column_words_fault rows columns es fs
 
--- ---- RHS
+-- ---- RHS and RANGES
 
 -- another set than this one, if there is one
 abbrev pub set_fault : Option Name → Name → Option DeckWhy
 set_fault None t = None
 set_fault (Some s) t = fault_if (not (bytes_eq s t)) SecondSet
 
--- a row with its right-hand side, below these rows and the rows that have one
-abbrev pub right_fault : List Name → List Name → Name → Name → Option DeckWhy
-right_fault rows given r v =
-    fault_if (not (has rows r)) UnknownName or fault_if (has given r) EntryTwice or fault_if (is_none (number_of v)) NumberText
+abbrev pub givens_fault : List RowLine → Option Name → List Name → List Name → Option DeckWhy
+givens_fault rows set given (r ∷ v ∷ []) = set_fault set [] or entry_fault rows given r v
+givens_fault rows set given (t ∷ r ∷ v ∷ []) = set_fault set t or entry_fault rows given r v
+givens_fault rows set given (r ∷ v ∷ s ∷ w ∷ []) = set_fault set [] or entry_fault rows given r v or entry_fault rows (given ++ r ∷ []) s w
+givens_fault rows set given (t ∷ r ∷ v ∷ s ∷ w ∷ []) = set_fault set t or entry_fault rows given r v or entry_fault rows (given ++ r ∷ []) s w
+givens_fault rows set given [] = Some FieldCount
+givens_fault rows set given (t ∷ []) = Some FieldCount
+givens_fault rows set given (t ∷ r ∷ v ∷ s ∷ w ∷ x ∷ fs) = Some FieldCount
 
-abbrev pub rights_fault : List Name → Option Name → List Name → List Name → Option DeckWhy
-rights_fault rows set given (t ∷ r ∷ v ∷ []) = set_fault set t or right_fault rows given r v
-rights_fault rows set given (t ∷ r ∷ v ∷ s ∷ w ∷ []) = set_fault set t or right_fault rows given r v or right_fault rows (given ++ r ∷ []) s w
-rights_fault rows set given [] = Some FieldCount
-rights_fault rows set given (t ∷ []) = Some FieldCount
-rights_fault rows set given (t ∷ r ∷ []) = Some NotYet
-rights_fault rows set given (t ∷ r ∷ v ∷ s ∷ []) = Some NotYet
-rights_fault rows set given (t ∷ r ∷ v ∷ s ∷ w ∷ x ∷ fs) = Some FieldCount
+-- ---- BOUNDS
+
+-- the kinds that make a column whole or semicontinuous
+abbrev pub is_integer_kind : Name → Bool
+is_integer_kind w = bytes_eq w (codes "BV") || bytes_eq w (codes "LI") || bytes_eq w (codes "UI") || bytes_eq w (codes "SC")
+
+abbrev pub unknown_kind_fault : Name → DeckWhy
+unknown_kind_fault w = if is_integer_kind w then IntegerMarker else BoundKindWhy
+
+abbrev pub bound_value_fault : Bool → Name → Option DeckWhy
+bound_value_fault takes v = if takes then text_fault v else None
+
+abbrev pub bound_words_fault : List Name → Option Name → Bool → Option BoundWords → Option DeckWhy
+bound_words_fault columns set takes None = Some FieldCount
+bound_words_fault columns set takes (Some w) =
+    set_fault set w.set or fault_if (not (has columns w.column)) UnknownName or bound_value_fault takes w.value
+
+abbrev pub bound_kind_fault : List Name → Option Name → Name → Option BoundKind → List Name → Option DeckWhy
+bound_kind_fault columns set k None fs = Some (unknown_kind_fault k)
+bound_kind_fault columns set k (Some kind) fs = bound_words_fault columns set (takes_value kind) (bound_words (takes_value kind) fs)
+
+-- a line of BOUNDS, below these columns and the set of the lines before it
+abbrev pub bound_fault : List Name → Option Name → List Name → Option DeckWhy
+bound_fault columns set [] = Some FieldCount
+bound_fault columns set (k ∷ fs) = bound_kind_fault columns set k (bound_kind k) fs
 
 -- ---- PAIRS
-
-abbrev pub is_col : Name → Bool
-is_col w = bytes_eq w (codes "COL")
 
 abbrev pub is_kind : Name → Bool
 is_kind w = bytes_eq w (codes "COL") || bytes_eq w (codes "ROW")
 
-abbrev pub kinds_fault : Name → Name → Option DeckWhy
-kinds_fault k l = fault_if (not (is_kind k) || not (is_kind l)) PairKind or fault_if (not (is_col k) || not (is_col l)) NotYet
+-- COL speaks of a column that is not fixed and has the lower bound 0
+abbrev pub is_free_from_zero : Column → Bool
+is_free_from_zero c = not c.fixed && is_zero c.lower.value
 
--- a pair's name and its columns, below these columns and pairs
-abbrev pub pair_names_fault : List Name → List Name → Name → Name → Name → Option DeckWhy
-pair_names_fault columns given p a b =
-    fault_if (has given p) NameTwice or fault_if (not (has columns a) || not (has columns b)) UnknownName or fault_if (nat_le 512 (length given)) TooMany
+abbrev pub column_quantity_fault : List Name → List Setting → Name → Option DeckWhy
+column_quantity_fault columns ss n = fault_if (not (has columns n)) UnknownName or fault_if (not (is_free_from_zero (column_bounds ss n))) PairLower
 
-abbrev pub pair_fault : List Name → List Name → List Name → Option DeckWhy
-pair_fault columns given (p ∷ k ∷ a ∷ l ∷ b ∷ []) = kinds_fault k l or pair_names_fault columns given p a b
-pair_fault columns given [] = Some FieldCount
-pair_fault columns given (p ∷ []) = Some FieldCount
-pair_fault columns given (p ∷ k ∷ []) = Some FieldCount
-pair_fault columns given (p ∷ k ∷ a ∷ []) = Some FieldCount
-pair_fault columns given (p ∷ k ∷ a ∷ l ∷ []) = Some FieldCount
-pair_fault columns given (p ∷ k ∷ a ∷ l ∷ b ∷ c ∷ fs) = Some FieldCount
+-- ROW speaks of an L or G row
+abbrev pub row_quantity_fault : List RowLine → Name → Option DeckWhy
+row_quantity_fault rows n = fault_if (not (has (row_names rows) n)) UnknownName or fault_if (not (is_inequality (row_named rows n).letter)) PairKind
+
+abbrev pub quantity_fault : List RowLine → List Name → List Setting → Name → Name → Option DeckWhy
+quantity_fault rows columns ss kind n = if is_col kind then column_quantity_fault columns ss n else row_quantity_fault rows n
+
+-- a line of PAIRS, below these rows, columns, bounds and pairs
+abbrev pub pair_fault : List RowLine → List Name → List Setting → List Name → List Name → Option DeckWhy
+pair_fault rows columns ss pairs (p ∷ k ∷ a ∷ l ∷ b ∷ []) =
+    fault_if (not (is_kind k) || not (is_kind l)) PairKind or fault_if (has pairs p) NameTwice
+    or quantity_fault rows columns ss k a or quantity_fault rows columns ss l b or fault_if (nat_le 512 (length pairs)) TooMany
+pair_fault rows columns ss pairs [] = Some FieldCount
+pair_fault rows columns ss pairs (p ∷ []) = Some FieldCount
+pair_fault rows columns ss pairs (p ∷ k ∷ []) = Some FieldCount
+pair_fault rows columns ss pairs (p ∷ k ∷ a ∷ []) = Some FieldCount
+pair_fault rows columns ss pairs (p ∷ k ∷ a ∷ l ∷ []) = Some FieldCount
+pair_fault rows columns ss pairs (p ∷ k ∷ a ∷ l ∷ b ∷ c ∷ fs) = Some FieldCount
 
 -- ---- lines
 
@@ -127,36 +158,56 @@ pair_fault columns given (p ∷ k ∷ a ∷ l ∷ b ∷ c ∷ fs) = Some FieldCo
 abbrev pub data_fault : Open → List Line → List Name → Option DeckWhy
 data_fault None before fs = Some SectionOrder
 data_fault (Some section.Name) before fs = Some SectionOrder
-data_fault (Some section.Rows) before fs = row_fault (row_names (slice section.Rows before)) fs
+data_fault (Some section.Rows) before fs = row_fault (rows_of (slice section.Rows before)) fs
 data_fault (Some section.Columns) before fs =
-    let rows = row_names (slice section.Rows before) in
-    let columns = column_names (slice section.Columns before) in
-    column_fault rows columns (map entry_place (entries_in rows columns (slice section.Columns before))) fs
+    column_fault (rows_of (slice section.Rows before)) (column_names (slice section.Columns before)) (entries_in (slice section.Columns before)) fs
 data_fault (Some section.Rhs) before fs =
-    rights_fault (row_names (slice section.Rows before)) (set_of (slice section.Rhs before)) (given_names (rights_in (slice section.Rhs before))) fs
-data_fault (Some section.Ranges) before fs = Some NotYet
-data_fault (Some section.Bounds) before fs = Some NotYet
-data_fault (Some section.Pairs) before fs = pair_fault (column_names (slice section.Columns before)) (pair_names (slice section.Pairs before)) fs
+    let rights = slice section.Rhs before in
+    givens_fault (rows_of (slice section.Rows before)) (first_set given_set rights) (given_rows (givens_in rights)) fs
+data_fault (Some section.Ranges) before fs =
+    let ranges = slice section.Ranges before in
+    givens_fault (rows_of (slice section.Rows before)) (first_set given_set ranges) (given_rows (givens_in ranges)) fs
+data_fault (Some section.Bounds) before fs =
+    bound_fault (column_names (slice section.Columns before)) (first_set bound_set (slice section.Bounds before)) fs
+data_fault (Some section.Pairs) before fs =
+    pair_fault (rows_of (slice section.Rows before)) (column_names (slice section.Columns before)) (settings_in (slice section.Bounds before)) (pair_names (slice section.Pairs before)) fs
 data_fault (Some section.Endata) before fs = Some SectionOrder
 
--- what ends a section: ROWS has an objective
-abbrev pub end_fault : Open → List Name → Option DeckWhy
-end_fault s rows = fault_if (is_open section.Rows s && is_empty rows) NoObjective
+-- a fault with the line at which it is named
+abbrev pub Found : Type 0
+Found = ℕ × DeckWhy
 
-abbrev pub order_fault : Open → Section → Option DeckWhy
-order_fault s t = fault_if (not (may_follow s t)) SectionOrder or fault_if (not (is_next s t)) NotYet
+abbrev pub found_at : ℕ → DeckWhy → Found
+found_at number w = (number, w)
 
-abbrev pub kind_fault : List Line → LineKind → List Name → Option DeckWhy
-kind_fault before Blank fs = Some NotYet
-kind_fault before Comment fs = Some NotYet
-kind_fault before (Head t) fs = end_fault (open_behind before) (row_names (slice section.Rows before)) or order_fault (open_behind before) t
-kind_fault before LeftOut fs = end_fault (open_behind before) (row_names (slice section.Rows before)) or Some LeftOutSection
-kind_fault before Unknown fs = Some UnknownSection
-kind_fault before Entry fs = data_fault (open_behind before) before fs
+abbrev pub named_at : ℕ → Option DeckWhy → Option Found
+named_at number o = option_map (found_at number) o
 
--- a line of a thin deck ends with LF alone, and its data lines begin with a blank
-abbrev pub form_fault : Line → Option DeckWhy
-form_fault l = fault_if (not l.lf_alone || (is_entry l.kind && not l.indented)) NotYet
+abbrev pub below_zero_at : Option ℕ → Option Found
+below_zero_at None = None
+below_zero_at (Some line) = Some (line, UpperBelowZero)
 
-abbrev pub fault_of : List Line → Line → Option DeckWhy
-fault_of before l = form_fault l or kind_fault before l.kind l.fields
+-- what a section lacks that a head with this number ends: ROWS an objective, and BOUNDS a lower bound of a column with an
+-- upper bound below 0, which is named at the line of the upper bound
+abbrev pub end_fault : Open → List RowLine → List Setting → ℕ → Option Found
+end_fault s rows ss number =
+    named_at number (fault_if (is_open section.Rows s && not (has_objective rows)) NoObjective)
+    or (if is_open section.Bounds s then below_zero_at (upper_below_zero ss) else None)
+
+abbrev pub ended_fault : List Line → ℕ → Option Found
+ended_fault before number = end_fault (open_behind before) (rows_of (slice section.Rows before)) (settings_in (slice section.Bounds before)) number
+
+abbrev pub order_fault : List Line → Section → Option DeckWhy
+order_fault before t = fault_if (not (may_follow (open_rank (open_behind before)) (is_begun t before) t)) SectionOrder
+
+abbrev pub kind_fault : List Line → ℕ → LineKind → List Name → Option Found
+kind_fault before number Blank fs = None
+kind_fault before number Comment fs = None
+kind_fault before number (Head t) fs = ended_fault before number or named_at number (order_fault before t)
+kind_fault before number LeftOut fs = ended_fault before number or Some (number, LeftOutSection)
+kind_fault before number Unknown fs = Some (number, UnknownSection)
+kind_fault before number Entry fs = named_at number (data_fault (open_behind before) before fs)
+
+-- what is wrong with a line behind others, and the line at which it is named
+abbrev pub fault_of : List Line → Line → Option Found
+fault_of before l = kind_fault before l.number l.kind l.fields

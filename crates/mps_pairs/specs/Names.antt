@@ -1,5 +1,5 @@
--- Names of a text, and lists of them.
-use Rattle.std.specs.Prelude.{ℕ, Bool, true, false, ◌&&◌, ◌==◌, if◌then◌else◌, List, [], ◌∷◌, ◌++◌}
+-- Lists of names.
+use Rattle.std.specs.Prelude.{ℕ, Bool, if◌then◌else◌, List, [], ◌∷◌, ◌++◌, fold}
 use Rattle.std.specs.List.{list_any, position_or_len}
 use Rattle.std.specs.Str.{bytes_eq}
 use Rattle.mps_lex.specs.Kinds.{Name}
@@ -12,14 +12,10 @@ has ns n = list_any (bytes_eq n) ns
 abbrev pub place : List Name → Name → ℕ
 place ns n = position_or_len (bytes_eq n) ns
 
--- each name once, in the order of first standing
+-- a name behind others, if it does not stand there
 abbrev pub add_name : List Name → Name → List Name
 add_name ns n = if has ns n then ns else ns ++ n ∷ []
 
--- whether a pair of numbers is in a list
-abbrev pub has_place : List (ℕ × ℕ) → ℕ × ℕ → Bool
-has_place ps p = list_any (λ q. p.0 == q.0 && p.1 == q.1) ps
-
-abbrev pub is_empty : List Name → Bool
-is_empty [] = true
-is_empty (n ∷ ns) = false
+-- each name once, in the order of first standing
+abbrev pub each_once : List Name → List Name
+each_once ns = fold add_name [] ns

@@ -1,26 +1,56 @@
--- The numbers of a thin deck: an optional minus, and one to fifteen digits.
-use Rattle.std.specs.Prelude.{ℕ, ◌+◌, ◌*◌, ◌-◌, ℤ, pos, neg_ℤ, Bool, true, false, ◌&&◌, ◌==◌, nat_le, if◌then◌else◌, List, [], ◌∷◌, length, Option, Some, None, unwrap_or}
-use Rattle.std.specs.List.{list_all}
-use Rattle.std.specs.Char.{is_ascii_digit}
+-- The numbers of a deck: decimal texts, as fractions in lowest terms.
+use Rattle.std.specs.Prelude.{ℕ, zero, suc, ◌%◌, ◌^◌, ◌==◌, Bool, false, if◌then◌else◌, Option, Some, None, ℤ, pos, neg_ℤ, ◌*ℤ◌, int_div, int_le, int_lt, unsigned_abs, option_map}
+use Rattle.std.specs.Ordering.{int_eq}
+use Rattle.lp_nums.specs.Fractions.{Fraction}
+use Rattle.lp_nums.specs.Decimals.{spelled}
+use Rattle.lp_nums.specs.NumberFaults.{number_fault}
+use Rattle.lp_nums.specs.declared.decimals.NumberFault.{NumberFault}
+use Rattle.lp_nums.specs.declared.decimals.NumberFault.TheVariants as number
 use Rattle.mps_lex.specs.Kinds.{Name}
+use Rattle.mps_pairs.specs.declared.fault.DeckWhy.{DeckWhy}
+use Rattle.mps_pairs.specs.declared.fault.DeckWhy.TheVariants.{NumberText, NumberWide}
 
--- the number of digits behind those that make n
-abbrev pub value_from : ℕ → List ℕ → ℕ
-value_from n [] = n
-value_from n (b ∷ bs) = value_from (10 * n + (b - 48)) bs
+-- by Euclid's rule, in at most so many steps
+abbrev pub common_divisor_within : ℕ → ℕ → ℕ → ℕ
+common_divisor_within zero a b = a
+common_divisor_within (suc steps) a b = if b == 0 then a else common_divisor_within steps b (a % b)
 
-abbrev pub with_sign : Bool → ℕ → ℤ
-with_sign negative n = if negative then neg_ℤ (pos n) else pos n
+-- the greatest common divisor
+abbrev pub common_divisor : ℕ → ℕ → ℕ
+common_divisor a b = common_divisor_within (suc b) a b
 
-abbrev pub are_digits : List ℕ → Bool
-are_digits ds = nat_le 1 (length ds) && (nat_le (length ds) 15 && list_all is_ascii_digit ds)
+abbrev pub divided : Fraction → ℤ → Fraction
+divided f d = record { num = int_div f.num d; den = int_div f.den d }
 
-abbrev pub digits : Bool → List ℕ → Option ℤ
-digits negative ds = if are_digits ds then Some (with_sign negative (value_from 0 ds)) else None
+unfoldable pub lowest_terms : Fraction → Fraction
+lowest_terms f = divided f (pos (common_divisor (unsigned_abs f.num) (unsigned_abs f.den)))
 
-abbrev pub number_of : Name → Option ℤ
-number_of [] = None
-number_of (b ∷ bs) = if b == 45 then digits true bs else digits false (b ∷ bs)
+-- the value of a decimal text
+abbrev pub value_of : Name → Fraction
+value_of w = lowest_terms (spelled w)
 
-abbrev pub value_of : Name → ℤ
-value_of w = unwrap_or (number_of w) (pos 0)
+abbrev pub why_no_number : NumberFault → DeckWhy
+why_no_number number.NumberText = NumberText
+why_no_number number.NumberWide = NumberWide
+
+-- why a text is no number of a deck
+abbrev pub text_fault : Name → Option DeckWhy
+text_fault w = option_map why_no_number (number_fault w)
+
+-- whether there is an end, and it is 0
+abbrev pub is_zero : Option Fraction → Bool
+is_zero None = false
+is_zero (Some f) = int_eq f.num (pos 0)
+
+-- whether there is an end below 0
+abbrev pub is_negative : Option Fraction → Bool
+is_negative None = false
+is_negative (Some f) = int_lt f.num (pos 0)
+
+-- a value of at least 10^20 is no upper bound
+abbrev pub upper_end : Fraction → Option Fraction
+upper_end f = if int_le (pos (10 ^ 20) *ℤ f.den) f.num then None else Some f
+
+-- a value of at most -10^20 is no lower bound
+abbrev pub lower_end : Fraction → Option Fraction
+lower_end f = if int_le f.num (neg_ℤ (pos (10 ^ 20) *ℤ f.den)) then None else Some f

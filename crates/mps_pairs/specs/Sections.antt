@@ -1,31 +1,34 @@
--- The sections of a deck, and the slice of data lines of each.
-use Rattle.std.specs.Prelude.{ℕ, ◌+◌, Bool, true, false, ◌&&◌, ◌||◌, ◌==◌, nat_lt, nat_le, if◌then◌else◌, List, [], ◌∷◌, ◌++◌, Option, Some, None}
+-- The sections of a deck: the slice of data lines of each, and the order of their heads.
+use Rattle.std.specs.Prelude.{ℕ, Bool, true, false, not, ◌&&◌, ◌==◌, nat_le, if◌then◌else◌, List, [], ◌∷◌, ◌++◌, Option, Some, None}
+use Rattle.std.specs.List.{list_any}
 use Rattle.mps_lex.specs.declared.line.Section.{Section}
 use Rattle.mps_lex.specs.declared.line.Section.TheVariants.{Name, Rows, Columns, Rhs, Ranges, Bounds, Pairs, Endata}
 use Rattle.mps_lex.specs.declared.line.LineKind.{LineKind}
 use Rattle.mps_lex.specs.declared.line.LineKind.TheVariants.{Blank, Comment, Head, LeftOut, Unknown, Entry}
 use Rattle.mps_lex.specs.Lines.{Line}
 
-abbrev pub rank : Section → ℕ
-rank Name = 1
-rank Rows = 2
-rank Columns = 3
-rank Rhs = 4
-rank Ranges = 5
-rank Bounds = 6
-rank Pairs = 7
-rank Endata = 8
+abbrev pub section_number : Section → ℕ
+section_number Name = 1
+section_number Rows = 2
+section_number Columns = 3
+section_number Rhs = 4
+section_number Ranges = 5
+section_number Bounds = 6
+section_number Pairs = 7
+section_number Endata = 8
+
+abbrev pub same_section : Section → Section → Bool
+same_section s t = section_number s == section_number t
 
 -- the section that stands open, if one does
 abbrev pub Open : Type 0
 Open = Option Section
 
-abbrev pub open_rank : Open → ℕ
-open_rank None = 0
-open_rank (Some s) = rank s
-
 abbrev pub is_open : Section → Open → Bool
-is_open t s = rank t == open_rank s
+is_open t None = false
+is_open t (Some s) = same_section t s
+
+-- ---- slices
 
 abbrev pub is_entry : LineKind → Bool
 is_entry Blank = false
@@ -64,22 +67,43 @@ slice_from t s (l ∷ ls) = data_line t s l.kind l ++ slice_from t (behind s l.k
 abbrev pub slice : Section → List Line → List Line
 slice t ls = slice_from t None ls
 
--- the order of heads, behind the heads of thin decks: NAME comes first if it comes, then ROWS and COLUMNS;
--- of the later ones each may be missing
-abbrev pub may_follow : Open → Section → Bool
-may_follow s t = nat_lt (open_rank s) (rank t) && (nat_le (rank t) (open_rank s + 1) || nat_le 3 (open_rank s) || (open_rank s == 0 && rank t == 2))
+-- ---- the order of heads
 
--- the order of a thin deck, where none is missing, and RANGES and BOUNDS do not come
-abbrev pub next_head : Open → Open
-next_head None = Some Name
-next_head (Some Name) = Some Rows
-next_head (Some Rows) = Some Columns
-next_head (Some Columns) = Some Rhs
-next_head (Some Rhs) = Some Pairs
-next_head (Some Ranges) = None
-next_head (Some Bounds) = None
-next_head (Some Pairs) = Some Endata
-next_head (Some Endata) = None
+abbrev pub is_head : Section → LineKind → Bool
+is_head t Blank = false
+is_head t Comment = false
+is_head t (Head s) = same_section t s
+is_head t LeftOut = false
+is_head t Unknown = false
+is_head t Entry = false
 
-abbrev pub is_next : Open → Section → Bool
-is_next s t = is_open t (next_head s)
+-- whether a section is begun in lines
+abbrev pub is_begun : Section → List Line → Bool
+is_begun t ls = list_any (λ l. is_head t l.kind) ls
+
+-- RHS, RANGES and BOUNDS have one rank, since they come in any order
+abbrev pub rank : Section → ℕ
+rank Name = 1
+rank Rows = 2
+rank Columns = 3
+rank Rhs = 4
+rank Ranges = 4
+rank Bounds = 4
+rank Pairs = 5
+rank Endata = 6
+
+abbrev pub open_rank : Open → ℕ
+open_rank None = 0
+open_rank (Some s) = rank s
+
+-- whether a section may begin behind one of this rank, where it is begun already or not. NAME comes first if it comes,
+-- then ROWS and COLUMNS; of the later ones each may be missing, and ENDATA ends the deck
+abbrev pub may_follow : ℕ → Bool → Section → Bool
+may_follow from begun Name = nat_le from 0
+may_follow from begun Rows = nat_le from 1
+may_follow from begun Columns = from == 2
+may_follow from begun Rhs = nat_le 3 from && nat_le from 4 && not begun
+may_follow from begun Ranges = nat_le 3 from && nat_le from 4 && not begun
+may_follow from begun Bounds = nat_le 3 from && nat_le from 4 && not begun
+may_follow from begun Pairs = nat_le 3 from && nat_le from 4
+may_follow from begun Endata = nat_le 3 from && nat_le from 5

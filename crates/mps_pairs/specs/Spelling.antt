@@ -1,117 +1,213 @@
 -- The deck that lines spell: each part of it is made from the lines of its slice, in their order.
-use Rattle.std.specs.Prelude.{ℕ, ◌+◌, ℤ, pos, if◌then◌else◌, List, [], ◌∷◌, length, map, fold, slice_index_or, Option, Some, None}
-use Rattle.std.specs.List.{flat_map}
+use Rattle.std.specs.Prelude.{ℕ, suc, ◌+◌, pos, Bool, true, false, not, ◌&&◌, if◌then◌else◌, List, [], ◌∷◌, ◌++◌, length, map, filter, fold, slice_index_or, Option, Some, None, is_some, unwrap_or, count_by, codes}
+use Rattle.std.specs.List.{flat_map, list_any, position_or_len}
 use Rattle.std.specs.Str.{bytes_eq}
-use Rattle.std.specs.Prelude.{codes}
+use Rattle.lp_nums.specs.Fractions.{Fraction}
 use Rattle.mps_lex.specs.Kinds.{Name}
 use Rattle.mps_lex.specs.Lines.{Line}
-use Rattle.mps_lex.specs.declared.line.Section.TheVariants.{Rows, Columns, Rhs, Pairs}
+use Rattle.mps_lex.specs.declared.line.Section.TheVariants.{Rows, Columns, Rhs, Ranges, Bounds, Pairs}
 use Rattle.mps_pairs.specs.declared.deck.Deck.{Deck}
-use Rattle.mps_pairs.specs.declared.deck.Row.{Row}
+use Rattle.mps_pairs.specs.declared.deck.Row as rows
 use Rattle.mps_pairs.specs.declared.deck.Entry.{Entry}
 use Rattle.mps_pairs.specs.declared.deck.PairLine.{PairLine}
 use Rattle.mps_pairs.specs.declared.deck.Letter.{Letter}
-use Rattle.mps_pairs.specs.declared.deck.Letter.TheVariants.{N, G}
-use Rattle.mps_pairs.specs.declared.deck.Quantity.TheVariants.{Col}
-use Rattle.mps_pairs.specs.Names.{place, add_name}
+use Rattle.mps_pairs.specs.declared.deck.Letter.TheVariants.{N, E, L, G}
+use Rattle.mps_pairs.specs.declared.deck.Quantity.{Quantity}
+use Rattle.mps_pairs.specs.declared.deck.Quantity.TheVariants.{Col, Row}
+use Rattle.mps_pairs.specs.Decks.{zero}
+use Rattle.mps_pairs.specs.Names.{place, each_once}
 use Rattle.mps_pairs.specs.Numbers.{value_of}
 use Rattle.mps_pairs.specs.Sections.{slice}
+use Rattle.mps_pairs.specs.Bounds.{Setting, settings_in, column_bounds}
 
 abbrev pub field : ℕ → List Name → Name
 field i fs = slice_index_or fs i []
 
 -- ---- ROWS: a letter and a name
 
-abbrev pub row_names : List Line → List Name
-row_names ls = map (λ l. field 1 l.fields) ls
-
 abbrev pub letter_of : Name → Letter
-letter_of w = if bytes_eq w (codes "N") then N else G
+letter_of w =
+    if bytes_eq w (codes "N") then N else
+    if bytes_eq w (codes "E") then E else
+    if bytes_eq w (codes "L") then L else G
 
--- what a line of ROWS says
+abbrev pub is_n : Letter → Bool
+is_n N = true
+is_n E = false
+is_n L = false
+is_n G = false
+
+-- what a line of ROWS says: a row with its place in the deck, if it has one
 pub record RowLine : Type 0 where
   pub letter : Letter
   pub line : ℕ
   pub name : Name
+  pub number : Option ℕ
 
-abbrev pub row_line : Line → RowLine
-row_line l = record { letter = letter_of (field 0 l.fields); line = l.number; name = field 1 l.fields }
+abbrev pub has_objective : List RowLine → Bool
+has_objective rs = list_any (λ r. is_n r.letter) rs
 
--- ---- COLUMNS: a column, a row and a value
+-- the rows that the deck has
+abbrev pub kept : List RowLine → List RowLine
+kept rs = filter (λ r. is_some r.number) rs
 
-abbrev pub column_names : List Line → List Name
-column_names ls = fold add_name [] (map (λ l. field 0 l.fields) ls)
+-- the first N row is the objective, and N rows behind it are dropped; the others are numbered in their order
+abbrev pub number_behind : List RowLine → Letter → Option ℕ
+number_behind rs l = if is_n l && has_objective rs then None else Some (length (kept rs))
 
-abbrev pub entry_named : List Name → List Name → List Name → Entry
-entry_named rows columns fs = record { column = place columns (field 0 fs); row = place rows (field 1 fs); value = value_of (field 2 fs) }
+abbrev pub row_line : List RowLine → Line → RowLine
+row_line rs l =
+    let letter = letter_of (field 0 l.fields) in
+    record { letter = letter; line = l.number; name = field 1 l.fields; number = number_behind rs letter }
 
-abbrev pub entries_in : List Name → List Name → List Line → List Entry
-entries_in rows columns ls = map (λ l. entry_named rows columns l.fields) ls
+abbrev pub add_row : List RowLine → Line → List RowLine
+add_row rs l = rs ++ row_line rs l ∷ []
 
-abbrev pub entry_place : Entry → ℕ × ℕ
-entry_place e = (e.column, e.row)
+-- the rows that lines name, each behind those before it
+abbrev pub rows_of : List Line → List RowLine
+rows_of ls = fold add_row [] ls
 
--- ---- RHS: the name of a set, and once or twice a row and a value
+abbrev pub row_names : List RowLine → List Name
+row_names rs = map (λ r. r.name) rs
+
+-- the rows other than N rows
+abbrev pub other_rows : List RowLine → ℕ
+other_rows rs = count_by (λ r. not (is_n r.letter)) rs
+
+abbrev pub no_row : RowLine
+no_row = record { letter = N; line = 0; name = []; number = None }
+
+-- the row of this name
+abbrev pub row_named : List RowLine → Name → RowLine
+row_named rs n = slice_index_or rs (place (row_names rs) n) no_row
+
+-- ---- COLUMNS: a column, and once or twice a row and a value
 
 -- a row and a value
 abbrev pub Given : Type 0
 Given = Name × Name
 
-abbrev pub rights_named : List Name → List Given
-rights_named (t ∷ r ∷ v ∷ []) = (r, v) ∷ []
-rights_named (t ∷ r ∷ v ∷ s ∷ w ∷ []) = (r, v) ∷ (s, w) ∷ []
-rights_named [] = []
-rights_named (t ∷ []) = []
-rights_named (t ∷ r ∷ []) = []
-rights_named (t ∷ r ∷ v ∷ s ∷ []) = []
-rights_named (t ∷ r ∷ v ∷ s ∷ w ∷ x ∷ fs) = []
+abbrev pub entries_named : List Name → List Given
+entries_named (c ∷ r ∷ v ∷ []) = (r, v) ∷ []
+entries_named (c ∷ r ∷ v ∷ s ∷ w ∷ []) = (r, v) ∷ (s, w) ∷ []
+entries_named [] = []
+entries_named (c ∷ []) = []
+entries_named (c ∷ r ∷ []) = []
+entries_named (c ∷ r ∷ v ∷ s ∷ []) = []
+entries_named (c ∷ r ∷ v ∷ s ∷ w ∷ x ∷ fs) = []
 
-abbrev pub rights_in : List Line → List Given
-rights_in ls = flat_map (λ l. rights_named l.fields) ls
+-- an entry as lines name it: a column, with a row and a value
+pub record NamedEntry : Type 0 where
+  pub column : Name
+  pub row : Name
+  pub value : Name
 
-abbrev pub given_names : List Given → List Name
-given_names gs = map (λ g. g.0) gs
+abbrev pub in_column : Name → Given → NamedEntry
+in_column c g = record { column = c; row = g.0; value = g.1 }
 
-abbrev pub given_values : List Given → List ℤ
-given_values gs = map (λ g. value_of g.1) gs
+abbrev pub entries_on : List Name → List NamedEntry
+entries_on fs = map (in_column (field 0 fs)) (entries_named fs)
 
--- the set that the first line names
-abbrev pub set_of : List Line → Option Name
-set_of [] = None
-set_of (l ∷ ls) = Some (field 0 l.fields)
+abbrev pub entries_in : List Line → List NamedEntry
+entries_in ls = flat_map (λ l. entries_on l.fields) ls
 
--- the value that stands with a name, or 0
-abbrev pub value_with : List Name → List ℤ → Name → ℤ
-value_with names values n = slice_index_or values (place names n) (pos 0)
+abbrev pub column_names : List Line → List Name
+column_names ls = each_once (map (λ l. field 0 l.fields) ls)
 
-abbrev pub row_with : List Name → List ℤ → RowLine → Row
-row_with names values r = record { letter = r.letter; line = r.line; rhs = value_with names values r.name }
+-- the rows in which a column has entries
+abbrev pub rows_in : Name → List NamedEntry → List Name
+rows_in c es = map (λ e. e.row) (filter (λ e. bytes_eq c e.column) es)
 
--- ---- PAIRS: a name, and twice the word COL with a column
+-- entries in dropped rows leave nothing
+abbrev pub entry_at : List Name → NamedEntry → Option ℕ → List Entry
+entry_at columns e None = []
+entry_at columns e (Some row) = record { column = place columns e.column; row = row; value = value_of e.value } ∷ []
+
+abbrev pub entry_of : List RowLine → List Name → NamedEntry → List Entry
+entry_of rows columns e = entry_at columns e (row_named rows e.row).number
+
+abbrev pub deck_entries : List RowLine → List Name → List NamedEntry → List Entry
+deck_entries rows columns es = flat_map (entry_of rows columns) es
+
+-- ---- RHS and RANGES: the name of a set or none, and once or twice a row and a value
+
+-- the set that a line names; a missing name is the empty one, which no field is
+abbrev pub given_set : List Name → Name
+given_set (t ∷ r ∷ v ∷ []) = t
+given_set (t ∷ r ∷ v ∷ s ∷ w ∷ []) = t
+given_set [] = []
+given_set (t ∷ []) = []
+given_set (r ∷ v ∷ []) = []
+given_set (r ∷ v ∷ s ∷ w ∷ []) = []
+given_set (t ∷ r ∷ v ∷ s ∷ w ∷ x ∷ fs) = []
+
+abbrev pub givens_on : List Name → List Given
+givens_on (r ∷ v ∷ []) = (r, v) ∷ []
+givens_on (t ∷ r ∷ v ∷ []) = (r, v) ∷ []
+givens_on (r ∷ v ∷ s ∷ w ∷ []) = (r, v) ∷ (s, w) ∷ []
+givens_on (t ∷ r ∷ v ∷ s ∷ w ∷ []) = (r, v) ∷ (s, w) ∷ []
+givens_on [] = []
+givens_on (t ∷ []) = []
+givens_on (t ∷ r ∷ v ∷ s ∷ w ∷ x ∷ fs) = []
+
+abbrev pub givens_in : List Line → List Given
+givens_in ls = flat_map (λ l. givens_on l.fields) ls
+
+abbrev pub given_rows : List Given → List Name
+given_rows gs = map (λ g. g.0) gs
+
+-- the set of the first of these lines
+abbrev pub first_set : (List Name → Name) → List Line → Option Name
+first_set set_on [] = None
+first_set set_on (l ∷ ls) = Some (set_on l.fields)
+
+-- the value that is given for a row, if one is
+abbrev pub given_value : List Given → Name → Option Fraction
+given_value [] n = None
+given_value (g ∷ gs) n = if bytes_eq n g.0 then Some (value_of g.1) else given_value gs n
+
+-- a right-hand side that is not given is 0, and the objective has no range
+abbrev pub deck_row : List Given → List Given → RowLine → rows.Row
+deck_row rights ranges r = record {
+  letter = r.letter;
+  line = r.line;
+  rhs = unwrap_or (given_value rights r.name) zero;
+  range = if is_n r.letter then None else given_value ranges r.name;
+}
+
+-- ---- PAIRS: a name, and twice a kind with a column or a row
 
 abbrev pub pair_names : List Line → List Name
 pair_names ls = map (λ l. field 0 l.fields) ls
 
-abbrev pub pair_named : List Name → List Name → PairLine
-pair_named columns fs = record { a = Col (place columns (field 2 fs)); b = Col (place columns (field 4 fs)) }
+abbrev pub is_col : Name → Bool
+is_col w = bytes_eq w (codes "COL")
 
-abbrev pub pairs_in : List Name → List Line → List PairLine
-pairs_in columns ls = map (λ l. pair_named columns l.fields) ls
+abbrev pub quantity_of : List RowLine → List Name → Name → Name → Quantity
+quantity_of rows columns kind n = if is_col kind then Col (place columns n) else Row (unwrap_or (row_named rows n).number 0)
+
+abbrev pub pair_of : List RowLine → List Name → List Name → PairLine
+pair_of rows columns fs = record {
+  a = quantity_of rows columns (field 1 fs) (field 2 fs);
+  b = quantity_of rows columns (field 3 fs) (field 4 fs);
+}
+
+abbrev pub deck_pairs : List RowLine → List Name → List Line → List PairLine
+deck_pairs rows columns ls = map (λ l. pair_of rows columns l.fields) ls
 
 -- ---- the deck
 
--- the deck of lines, with the number of the line behind them, which is ENDATA; its first row is the objective
+-- the deck of lines, with the number of the line behind them, which is ENDATA
 abbrev pub deck_of : List Line → ℕ → Deck
 deck_of ls end_line =
-    let rows = slice Rows ls in
+    let rows = rows_of (slice Rows ls) in
     let columns = column_names (slice Columns ls) in
-    let rights = rights_in (slice Rhs ls) in
     record {
-      rows = map (row_with (given_names rights) (given_values rights)) (map row_line rows);
-      objective = 0;
-      columns = length columns;
-      entries = entries_in (row_names rows) columns (slice Columns ls);
-      pairs = pairs_in columns (slice Pairs ls);
+      rows = map (deck_row (givens_in (slice Rhs ls)) (givens_in (slice Ranges ls))) (kept rows);
+      objective = position_or_len (λ r. is_n r.letter) (kept rows);
+      columns = map (column_bounds (settings_in (slice Bounds ls))) columns;
+      entries = deck_entries rows columns (entries_in (slice Columns ls));
+      pairs = deck_pairs rows columns (slice Pairs ls);
       end_line = end_line;
     }
 

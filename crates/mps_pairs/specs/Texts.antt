@@ -2,24 +2,18 @@
 use Rattle.std.specs.Prelude.{◌≡◌, ℕ, ◌+◌, ◌⊎◌, Bool, true, false, List, [], ◌∷◌, ◌++◌, length, Option, None, Some, Result, Ok, Err, if◌then◌else◌}
 use Rattle.mps_lex.specs.Lines.{Line, lines_of}
 use Rattle.mps_lex.specs.declared.line.LineKind.{LineKind}
-use Rattle.mps_lex.specs.declared.line.LineKind.TheVariants.{Blank, Comment, Head, LeftOut, Unknown, Entry}
 use Rattle.mps_lex.specs.declared.line.Section.TheVariants.{Endata}
 use Rattle.mps_pairs.specs.declared.deck.Deck.{Deck}
 use Rattle.mps_pairs.specs.declared.fault.DeckWhy.{DeckWhy}
 use Rattle.mps_pairs.specs.declared.fault.DeckWhy.TheVariants.{NotClosed}
 use Rattle.mps_pairs.specs.declared.fault.DeckFault.{DeckFault}
 use Rattle.mps_pairs.specs.declared.fault.DeckFault.TheVariants.{NoMemory, At}
-use Rattle.mps_pairs.specs.Sections.{is_open}
+use Rattle.mps_pairs.specs.Sections.{is_head}
 use Rattle.mps_pairs.specs.Spelling.{deck_of, size_of}
-use Rattle.mps_pairs.specs.Faults.{fault_of}
+use Rattle.mps_pairs.specs.Faults.{Found, fault_of}
 
 abbrev pub ends_deck : LineKind → Bool
-ends_deck Blank = false
-ends_deck Comment = false
-ends_deck (Head s) = is_open Endata (Some s)
-ends_deck LeftOut = false
-ends_deck Unknown = false
-ends_deck Entry = false
+ends_deck kind = is_head Endata kind
 
 -- behind the lines before, none of these lines has a fault, and none is ENDATA
 abbrev pub IsClean : List Line → List Line → Type 0
@@ -39,24 +33,23 @@ pub record SpellsBehind (before ls : List Line) (deck : Deck) (place : ℕ) : Ty
   pub deck_is : deck ≡ deck_of (before ++ front) last.number
   pub place_is : place ≡ size_of ((before ++ front) ++ last ∷ [])
 
--- behind the lines before, the first line with a fault is the one of this number
-pub record FailsBehind (before ls : List Line) (number : ℕ) (why : DeckWhy) : Type 0 where
+-- behind the lines before, this is the fault of the first line with a fault
+pub record FailsBehind (before ls : List Line) (found : Found) : Type 0 where
   pub front : List Line
   pub line : Line
   pub rest : List Line
   pub lines : ls ≡ front ++ line ∷ rest
   pub clean : IsClean before front
-  pub fault : fault_of (before ++ front) line ≡ Some why
-  pub number_is : number ≡ line.number
+  pub fault : fault_of (before ++ front) line ≡ Some found
 
 -- the text spells the deck by its first lines, which end before this place
 abbrev pub Spells : List ℕ → Deck → ℕ → Type 0
 Spells text deck place = SpellsBehind [] (lines_of text) deck place
 
--- the first line of the text with a fault, or the one behind the last line, where no ENDATA comes
+-- the first line of the text with a fault has this one, or no ENDATA comes: the fault is then named behind the last line
 abbrev pub Fails : List ℕ → ℕ → DeckWhy → Type 0
 Fails text number why =
-    FailsBehind [] (lines_of text) number why
+    FailsBehind [] (lines_of text) (number, why)
     ⊎ (IsClean [] (lines_of text) × (number ≡ length (lines_of text) + 1) × (why ≡ NotClosed))
 
 -- the fault that a call names is the text's first, unless memory is short
@@ -68,11 +61,11 @@ FailsAs (At line why) text = Fails text line why
 
 -- a deck with the place behind it, or the number of a line with its fault
 abbrev pub Answer : Type 0
-Answer = Result (Deck × ℕ) (ℕ × DeckWhy)
+Answer = Result (Deck × ℕ) Found
 
-abbrev pub judged : Option DeckWhy → ℕ → Bool → Deck × ℕ → Answer → Answer
-judged (Some w) number ends read later = Err (number, w)
-judged None number ends read later = if ends then Ok read else later
+abbrev pub judged : Option Found → Bool → Deck × ℕ → Answer → Answer
+judged (Some found) ends read later = Err found
+judged None ends read later = if ends then Ok read else later
 
 -- what the lines up to ENDATA give
 abbrev pub read_of : List Line → Line → Deck × ℕ
@@ -80,7 +73,7 @@ read_of before l = (deck_of before l.number, size_of (before ++ l ∷ []))
 
 abbrev pub answer_from : List Line → List Line → Answer
 answer_from before [] = Err (length before + 1, NotClosed)
-answer_from before (l ∷ ls) = judged (fault_of before l) l.number (ends_deck l.kind) (read_of before l) (answer_from (before ++ l ∷ []) ls)
+answer_from before (l ∷ ls) = judged (fault_of before l) (ends_deck l.kind) (read_of before l) (answer_from (before ++ l ∷ []) ls)
 
 abbrev pub answer : List ℕ → Answer
 answer text = answer_from [] (lines_of text)

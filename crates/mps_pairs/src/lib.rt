@@ -1,23 +1,20 @@
-//! Decks in free MPS with a PAIRS section, as far as they are thin.
+//! Decks in free MPS with a PAIRS section: objective, rows, columns, bounds, ranges and pairs of
+//! quantities of which one must be zero.
 //!
-//! Each line of a thin deck ends with LF alone. Its heads are NAME, ROWS, COLUMNS, RHS, PAIRS and
-//! ENDATA, each once and in this order; its data lines begin with a blank, and none of its lines is
-//! blank or a comment. ROWS has `N name` first and then `G name`, COLUMNS has `column row value`,
-//! RHS `set row value` or this with a second `row value`, and PAIRS `name COL column COL column`.
-//! A value is an optional `-` and one to fifteen digits.
+//! The definitions stand in `specs/`: `Spelling` and `Bounds` say which deck lines spell, `Faults`
+//! what is wrong with a line behind others, and `Texts` which deck a text spells and which fault is
+//! its first.
 #![tactic(auto)]
 
+mod bounds;
 mod deck;
 mod fault;
-mod faults;
-mod names;
-mod numbers;
 mod read;
-mod sections;
-mod tables;
 
-pub use deck::{Deck, Entry, Letter, PairLine, Quantity, Row};
+pub use bounds::BoundKind;
+pub use deck::{Bound, Column, Deck, Entry, Letter, PairLine, Quantity, Row};
 pub use fault::{DeckFault, DeckWhy};
 pub use read::{
-    read_deck, spelled_by_first_lines, spelled_decks_keep, spelled_once, spelled_or_faulty,
+    nothing_after, read_deck, spelled_by_first_lines, spelled_decks_keep, spelled_once,
+    spelled_or_faulty,
 };
