@@ -1,5 +1,5 @@
 -- Fields, and what kind of line bytes are.
-use Rattle.std.specs.Prelude.{ℕ, Bool, true, ◌||◌, ◌==◌, codes, if◌then◌else◌, List, [], ◌∷◌, Option, Some, None}
+use Rattle.std.specs.Prelude.{ℕ, Bool, true, false, ◌||◌, ◌==◌, codes, if◌then◌else◌, List, [], ◌∷◌, Option, Some, None}
 use Rattle.std.specs.Str.{bytes_eq}
 use Rattle.mps_lex.specs.declared.line.Section.{Section}
 use Rattle.mps_lex.specs.declared.line.Section.TheVariants.{Name as NameSection, Rows, Columns, Rhs, Ranges, Bounds, Pairs, Endata}
@@ -69,3 +69,12 @@ kind_indented (w ∷ ws) = Entry
 abbrev pub kind_of : List ℕ → LineKind
 kind_of [] = Blank
 kind_of (b ∷ bs) = if b == 42 then Comment else if is_blank b then kind_indented (fields (b ∷ bs)) else kind_at_margin (fields (b ∷ bs))
+
+-- blank lines and comments are passed over
+abbrev pub is_passed : LineKind → Bool
+is_passed Blank = true
+is_passed Comment = true
+is_passed (Head s) = false
+is_passed LeftOut = false
+is_passed Unknown = false
+is_passed Entry = false

@@ -1,10 +1,12 @@
 //! What a line is, told from its bytes and fields.
 ghost use Rattle.std.specs.Prelude.{◌≡◌, map};
-ghost use Rattle.mps_lex.specs.Kinds.{section_named, is_left_out, kind_alone, kind_at_margin, kind_indented, kind_of, fields};
+ghost use Rattle.std.specs.List.{list_all};
+ghost use Rattle.mps_lex.specs.Lines.{content};
+ghost use Rattle.mps_lex.specs.Kinds.{is_blank, section_named, is_left_out, kind_alone, kind_at_margin, kind_indented, kind_of, is_passed, fields};
 ghost use Rattle.mps_lex.specs.Shown.{shown};
 
 use crate::line::{LineKind, Section};
-use crate::split::is_blank;
+use crate::split::{content_of, is_blank};
 
 #[tactic(auto, unfolding(crate::specs::Kinds::section_named))]
 fn section_named(word: &[u8]) -> Option<Section>
@@ -112,4 +114,32 @@ pub fn kind_of(text: &[u8], found: &[&[u8]]) -> LineKind
             }
         }
     }
+}
+
+fn is_all_blank(text: &[u8]) -> bool
+    ensures { result ≡ list_all is_blank text.now }
+{
+    text.iter().all(|byte| *byte == b' ' || *byte == b'\t')
+}
+
+// Whether a line with these bytes is blank or a comment.
+fn is_passed_content(text: &[u8]) -> bool
+    ensures { result ≡ is_passed (kind_of text.now) }
+{
+    match text {
+        [] => true,
+        [first, ..] => {
+            if *first == b'*' {
+                return true;
+            }
+            is_all_blank(text)
+        }
+    }
+}
+
+/// Whether the line of a piece of a text is blank or a comment. It takes no memory.
+pub fn is_passed(piece: &[u8]) -> bool
+    ensures { result ≡ is_passed (kind_of (content piece.now)) }
+{
+    is_passed_content(content_of(piece))
 }

@@ -6,5 +6,6 @@ mod line;
 mod places;
 mod split;
 
+pub use kinds::is_passed;
 pub use line::{Line, LineKind, Section, SplitLine, line_of, lines};
 pub use split::first_piece;

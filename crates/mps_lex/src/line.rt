@@ -1,12 +1,12 @@
 //! Lines: their kinds and fields.
-ghost use Rattle.std.specs.Prelude.{◌≡◌, ◌<◌, ◌≤◌, ◌+◌, ◌-◌, ◌^◌, IfOk, length};
-ghost use Rattle.mps_lex.specs.Lines.{content, line_of};
+ghost use Rattle.std.specs.Prelude.{◌≡◌, ◌<◌, ◌+◌, ◌-◌, ◌^◌, IfOk, length};
+ghost use Rattle.mps_lex.specs.Lines.{line_of};
 ghost use Rattle.mps_lex.specs.Places.{placed_line, placed_lines};
 ghost use Rattle.mps_lex.specs.Shown.{seen_line};
 
 use crate::kinds::kind_of;
 use crate::places::places_of;
-use crate::split::{fields_of, first_piece, without_end};
+use crate::split::{content_of, fields_of, first_piece};
 use lp_base::Sequence;
 use std::alloc::{AllocError, Global};
 
@@ -59,14 +59,6 @@ pub struct SplitLine<'a> {
     pub fields: Vec<&'a [u8]>,
     /// How many bytes it has, its end with them.
     pub size: usize,
-}
-
-// A piece of a text without its end.
-fn content_of(piece: &[u8]) -> &[u8]
-    ensures value { result.now ≡ content piece.now }
-    ensures within { length result.now ≤ length piece.now }
-{
-    without_end(b'\r', without_end(b'\n', piece))
 }
 
 /// The line of a piece of a text, with its number.

@@ -1,7 +1,7 @@
 //! How a text falls into pieces, and a piece into fields.
 ghost use Rattle.std.specs.Prelude.{◌≡◌, ◌<◌, ◌≤◌, ◌+◌, ◌++◌, ◌∷◌, ◌==◌, not, IfOk, map, length};
 ghost use Rattle.std.specs.List.{prefix_len};
-ghost use Rattle.mps_lex.specs.Lines.{pieces, without_end};
+ghost use Rattle.mps_lex.specs.Lines.{pieces, without_end, content};
 ghost use Rattle.mps_lex.specs.Kinds.{is_blank, fields};
 ghost use Rattle.mps_lex.specs.Shown.{shown};
 
@@ -61,6 +61,14 @@ pub fn without_end(byte: u8, text: &[u8]) -> &[u8]
         return &text[..text.len() - 1];
     }
     text
+}
+
+/// A piece of a text without its end.
+pub fn content_of(piece: &[u8]) -> &[u8]
+    ensures value { result.now ≡ content piece.now }
+    ensures within { length result.now ≤ length piece.now }
+{
+    without_end(b'\r', without_end(b'\n', piece))
 }
 
 /// The longest runs of bytes that are no blanks.

@@ -57,9 +57,13 @@ pub record Setting : Type 0 where
   pub column : Name
   pub value : Fraction
 
+abbrev pub bound_value : Bool → Name → Fraction
+bound_value true v = value_of v
+bound_value false v = zero
+
 abbrev pub setting_with : BoundKind → ℕ → Option BoundWords → List Setting
 setting_with k number None = []
-setting_with k number (Some w) = record { kind = k; line = number; column = w.column; value = value_of w.value } ∷ []
+setting_with k number (Some w) = record { kind = k; line = number; column = w.column; value = bound_value (takes_value k) w.value } ∷ []
 
 abbrev pub setting_of_kind : Option BoundKind → ℕ → List Name → List Setting
 setting_of_kind None number fs = []
@@ -72,13 +76,13 @@ setting_on number (k ∷ fs) = setting_of_kind (bound_kind k) number fs
 abbrev pub settings_in : List Line → List Setting
 settings_in ls = flat_map (λ l. setting_on l.number l.fields) ls
 
+abbrev pub set_in : Option BoundWords → Name
+set_in None = []
+set_in (Some w) = w.set
+
 abbrev pub set_with : Option BoundKind → List Name → Name
 set_with None fs = []
 set_with (Some k) fs = set_in (bound_words (takes_value k) fs)
-  where
-    set_in : Option BoundWords → Name
-    set_in None = []
-    set_in (Some w) = w.set
 
 -- the set that a line of BOUNDS names
 abbrev pub bound_set : List Name → Name

@@ -8,3 +8,6 @@ pub mod Faults
 pub mod Texts
 pub mod After
 pub mod Whys
+pub mod Known
+pub mod Seen
+pub mod Fields

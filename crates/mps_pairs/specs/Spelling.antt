@@ -1,6 +1,6 @@
 -- The deck that lines spell: each part of it is made from the lines of its slice, in their order.
-use Rattle.std.specs.Prelude.{ℕ, suc, ◌+◌, pos, Bool, true, false, not, ◌&&◌, if◌then◌else◌, List, [], ◌∷◌, ◌++◌, length, map, filter, fold, slice_index_or, Option, Some, None, is_some, unwrap_or, count_by, codes}
-use Rattle.std.specs.List.{flat_map, list_any, position_or_len}
+use Rattle.std.specs.Prelude.{ℕ, ◌+◌, Bool, true, false, not, ◌&&◌, if◌then◌else◌, List, [], ◌∷◌, ◌++◌, length, map, filter, fold, slice_index_or, Option, Some, None, is_some, unwrap_or, count_by, codes}
+use Rattle.std.specs.List.{flat_map, list_any, find, position_or_len}
 use Rattle.std.specs.Str.{bytes_eq}
 use Rattle.lp_nums.specs.Fractions.{Fraction}
 use Rattle.mps_lex.specs.Kinds.{Name}
@@ -15,10 +15,10 @@ use Rattle.mps_pairs.specs.declared.deck.Letter.TheVariants.{N, E, L, G}
 use Rattle.mps_pairs.specs.declared.deck.Quantity.{Quantity}
 use Rattle.mps_pairs.specs.declared.deck.Quantity.TheVariants.{Col, Row}
 use Rattle.mps_pairs.specs.Decks.{zero}
-use Rattle.mps_pairs.specs.Names.{place, each_once}
+use Rattle.mps_pairs.specs.Names.{place, each_once, named}
 use Rattle.mps_pairs.specs.Numbers.{value_of}
 use Rattle.mps_pairs.specs.Sections.{slice}
-use Rattle.mps_pairs.specs.Bounds.{Setting, settings_in, column_bounds}
+use Rattle.mps_pairs.specs.Bounds.{settings_in, column_bounds}
 
 abbrev pub field : ℕ → List Name → Name
 field i fs = slice_index_or fs i []
@@ -55,13 +55,13 @@ kept rs = filter (λ r. is_some r.number) rs
 abbrev pub number_behind : List RowLine → Letter → Option ℕ
 number_behind rs l = if is_n l && has_objective rs then None else Some (length (kept rs))
 
-abbrev pub row_line : List RowLine → Line → RowLine
-row_line rs l =
-    let letter = letter_of (field 0 l.fields) in
-    record { letter = letter; line = l.number; name = field 1 l.fields; number = number_behind rs letter }
+abbrev pub row_line : List RowLine → ℕ → List Name → RowLine
+row_line rs line fs =
+    let letter = letter_of (field 0 fs) in
+    record { letter = letter; line = line; name = field 1 fs; number = number_behind rs letter }
 
 abbrev pub add_row : List RowLine → Line → List RowLine
-add_row rs l = rs ++ row_line rs l ∷ []
+add_row rs l = rs ++ row_line rs l.number l.fields ∷ []
 
 -- the rows that lines name, each behind those before it
 abbrev pub rows_of : List Line → List RowLine
@@ -74,39 +74,43 @@ row_names rs = map (λ r. r.name) rs
 abbrev pub other_rows : List RowLine → ℕ
 other_rows rs = count_by (λ r. not (is_n r.letter)) rs
 
-abbrev pub no_row : RowLine
-no_row = record { letter = N; line = 0; name = []; number = None }
+-- the row of this name, if there is one
+abbrev pub row_named : List RowLine → Name → Option RowLine
+row_named rs n = find (λ r. bytes_eq n r.name) rs
 
--- the row of this name
-abbrev pub row_named : List RowLine → Name → RowLine
-row_named rs n = slice_index_or rs (place (row_names rs) n) no_row
+abbrev pub number_of_row : Option RowLine → Option ℕ
+number_of_row None = None
+number_of_row (Some r) = r.number
 
 -- ---- COLUMNS: a column, and once or twice a row and a value
 
 -- a row and a value
 abbrev pub Given : Type 0
-Given = Name × Name
+Given = Name × Fraction
 
-abbrev pub entries_named : List Name → List Given
-entries_named (c ∷ r ∷ v ∷ []) = (r, v) ∷ []
-entries_named (c ∷ r ∷ v ∷ s ∷ w ∷ []) = (r, v) ∷ (s, w) ∷ []
-entries_named [] = []
-entries_named (c ∷ []) = []
-entries_named (c ∷ r ∷ []) = []
-entries_named (c ∷ r ∷ v ∷ s ∷ []) = []
-entries_named (c ∷ r ∷ v ∷ s ∷ w ∷ x ∷ fs) = []
+abbrev pub given : Name → Name → Given
+given r v = (r, value_of v)
+
+abbrev pub values_on : List Name → List Given
+values_on (c ∷ r ∷ v ∷ []) = given r v ∷ []
+values_on (c ∷ r ∷ v ∷ s ∷ w ∷ []) = given r v ∷ given s w ∷ []
+values_on [] = []
+values_on (c ∷ []) = []
+values_on (c ∷ r ∷ []) = []
+values_on (c ∷ r ∷ v ∷ s ∷ []) = []
+values_on (c ∷ r ∷ v ∷ s ∷ w ∷ x ∷ fs) = []
 
 -- an entry as lines name it: a column, with a row and a value
 pub record NamedEntry : Type 0 where
   pub column : Name
   pub row : Name
-  pub value : Name
+  pub value : Fraction
 
 abbrev pub in_column : Name → Given → NamedEntry
 in_column c g = record { column = c; row = g.0; value = g.1 }
 
 abbrev pub entries_on : List Name → List NamedEntry
-entries_on fs = map (in_column (field 0 fs)) (entries_named fs)
+entries_on fs = map (in_column (field 0 fs)) (values_on fs)
 
 abbrev pub entries_in : List Line → List NamedEntry
 entries_in ls = flat_map (λ l. entries_on l.fields) ls
@@ -118,13 +122,13 @@ column_names ls = each_once (map (λ l. field 0 l.fields) ls)
 abbrev pub rows_in : Name → List NamedEntry → List Name
 rows_in c es = map (λ e. e.row) (filter (λ e. bytes_eq c e.column) es)
 
--- entries in dropped rows leave nothing
-abbrev pub entry_at : List Name → NamedEntry → Option ℕ → List Entry
-entry_at columns e None = []
-entry_at columns e (Some row) = record { column = place columns e.column; row = row; value = value_of e.value } ∷ []
+-- an entry in a dropped row leaves nothing
+abbrev pub entry_at : ℕ → Fraction → Option ℕ → List Entry
+entry_at column value None = []
+entry_at column value (Some row) = record { column = column; row = row; value = value } ∷ []
 
 abbrev pub entry_of : List RowLine → List Name → NamedEntry → List Entry
-entry_of rows columns e = entry_at columns e (row_named rows e.row).number
+entry_of rows columns e = entry_at (place columns e.column) e.value (number_of_row (row_named rows e.row))
 
 abbrev pub deck_entries : List RowLine → List Name → List NamedEntry → List Entry
 deck_entries rows columns es = flat_map (entry_of rows columns) es
@@ -142,10 +146,10 @@ given_set (r ∷ v ∷ s ∷ w ∷ []) = []
 given_set (t ∷ r ∷ v ∷ s ∷ w ∷ x ∷ fs) = []
 
 abbrev pub givens_on : List Name → List Given
-givens_on (r ∷ v ∷ []) = (r, v) ∷ []
-givens_on (t ∷ r ∷ v ∷ []) = (r, v) ∷ []
-givens_on (r ∷ v ∷ s ∷ w ∷ []) = (r, v) ∷ (s, w) ∷ []
-givens_on (t ∷ r ∷ v ∷ s ∷ w ∷ []) = (r, v) ∷ (s, w) ∷ []
+givens_on (r ∷ v ∷ []) = given r v ∷ []
+givens_on (t ∷ r ∷ v ∷ []) = given r v ∷ []
+givens_on (r ∷ v ∷ s ∷ w ∷ []) = given r v ∷ given s w ∷ []
+givens_on (t ∷ r ∷ v ∷ s ∷ w ∷ []) = given r v ∷ given s w ∷ []
 givens_on [] = []
 givens_on (t ∷ []) = []
 givens_on (t ∷ r ∷ v ∷ s ∷ w ∷ x ∷ fs) = []
@@ -153,26 +157,18 @@ givens_on (t ∷ r ∷ v ∷ s ∷ w ∷ x ∷ fs) = []
 abbrev pub givens_in : List Line → List Given
 givens_in ls = flat_map (λ l. givens_on l.fields) ls
 
-abbrev pub given_rows : List Given → List Name
-given_rows gs = map (λ g. g.0) gs
-
 -- the set of the first of these lines
 abbrev pub first_set : (List Name → Name) → List Line → Option Name
 first_set set_on [] = None
 first_set set_on (l ∷ ls) = Some (set_on l.fields)
-
--- the value that is given for a row, if one is
-abbrev pub given_value : List Given → Name → Option Fraction
-given_value [] n = None
-given_value (g ∷ gs) n = if bytes_eq n g.0 then Some (value_of g.1) else given_value gs n
 
 -- a right-hand side that is not given is 0, and the objective has no range
 abbrev pub deck_row : List Given → List Given → RowLine → rows.Row
 deck_row rights ranges r = record {
   letter = r.letter;
   line = r.line;
-  rhs = unwrap_or (given_value rights r.name) zero;
-  range = if is_n r.letter then None else given_value ranges r.name;
+  rhs = unwrap_or (named rights r.name) zero;
+  range = if is_n r.letter then None else named ranges r.name;
 }
 
 -- ---- PAIRS: a name, and twice a kind with a column or a row
@@ -184,7 +180,7 @@ abbrev pub is_col : Name → Bool
 is_col w = bytes_eq w (codes "COL")
 
 abbrev pub quantity_of : List RowLine → List Name → Name → Name → Quantity
-quantity_of rows columns kind n = if is_col kind then Col (place columns n) else Row (unwrap_or (row_named rows n).number 0)
+quantity_of rows columns kind n = if is_col kind then Col (place columns n) else Row (unwrap_or (number_of_row (row_named rows n)) 0)
 
 abbrev pub pair_of : List RowLine → List Name → List Name → PairLine
 pair_of rows columns fs = record {

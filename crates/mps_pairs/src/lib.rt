@@ -6,15 +6,23 @@
 //! its first.
 #![tactic(auto)]
 
+mod after;
 mod bounds;
+mod columns;
 mod deck;
 mod fault;
+mod givens;
+mod names;
+mod numbers;
+mod pairs;
 mod read;
+mod rows;
+mod sections;
+mod tables;
 
-pub use bounds::BoundKind;
+pub use after::nothing_after;
 pub use deck::{Bound, Column, Deck, Entry, Letter, PairLine, Quantity, Row};
 pub use fault::{DeckFault, DeckWhy};
 pub use read::{
-    nothing_after, read_deck, spelled_by_first_lines, spelled_decks_keep, spelled_once,
-    spelled_or_faulty,
+    read_deck, spelled_by_first_lines, spelled_decks_keep, spelled_once, spelled_or_faulty,
 };

@@ -1,17 +1,214 @@
 //! Reading a deck.
-ghost use Rattle.std.specs.Prelude.{◌≡◌, ◌-◌, ◌<◌, ◌≤◌, ◌^◌, IfOk, IfErr, MatchResult, Ok, Err, None, Some, ℕ, List, ◌⊎◌, ◌++◌, true, length, take};
+ghost use Rattle.std.specs.Prelude.{◌≡◌, ◌+◌, ◌-◌, ◌<◌, ◌≤◌, ◌^◌, OnOk, IfOk, IfErr, Ok, Err, Option, None, Some, true, ℕ, List, ◌⊎◌, [], ◌++◌, length, take};
+ghost use Rattle.mps_lex.specs.Lines.{ends_with, line_of, lines_of};
+ghost use Rattle.mps_lex.specs.Shown.{seen_line};
 ghost use Rattle.mps_pairs.specs.declared.deck.Deck as spelled;
 ghost use Rattle.mps_pairs.specs.declared.fault.DeckWhy as why;
-ghost use Rattle.mps_pairs.specs.declared.fault.DeckWhy.TheVariants.{AfterEnd};
+ghost use Rattle.mps_pairs.specs.declared.fault.DeckWhy.TheVariants.{LeftOutSection};
 ghost use Rattle.mps_pairs.specs.declared.fault.DeckFault.TheVariants.{At};
 ghost use Rattle.mps_pairs.specs.Decks.{IsDeck};
-ghost use Rattle.mps_pairs.specs.Texts.{Spells, Fails, FailsAs, Gives};
-ghost use Rattle.mps_lex.specs.Lines.{ends_with};
-ghost use Rattle.mps_pairs.specs.After.{first_after};
+ghost use Rattle.mps_pairs.specs.Faults.{◌or◌, named_at};
+ghost use Rattle.mps_pairs.specs.Texts.{Spells, Fails, FailsAs, ends_deck, answer, Refuses, Gives};
+ghost use Rattle.mps_pairs.specs.Known.{Tells, TellsAt, JudgesAt, known, course_of, begin, next_course, course_fault, known_fault, known_end_fault, line_fault, with_data, next_known, deck_from};
 
 use crate::deck::Deck;
-use crate::fault::{DeckFault, DeckWhy};
+use crate::fault::{DeckFault, DeckWhy, Fault};
+use crate::sections::Course;
+use crate::tables::Tables;
+use mps_lex::{LineKind, Section, SplitLine, first_piece, line_of};
 use std::alloc::{AllocError, Global};
+
+// The fault at a line.
+fn at_line(fault: Fault, number: u32) -> DeckFault
+    ensures { (o : Option why.DeckWhy) → Tells fault o → TellsAt result (named_at number o) }
+{
+    match fault {
+        Fault::Memory => DeckFault::NoMemory(AllocError),
+        Fault::Of(why) => DeckFault::At { line: number, why },
+    }
+}
+
+// What a section lacks that a head of this number ends.
+fn end_fault<'a>(course: Course, tables: &Tables<'a>, number: u32) -> Option<(u32, DeckWhy)>
+    ensures { result ≡ known_end_fault course tables.now number }
+{
+    match course.current {
+        Some(Section::Rows) => {
+            if tables.has_objective() {
+                return None;
+            }
+            Some((number, DeckWhy::NoObjective))
+        }
+        Some(Section::Bounds) => match tables.below_zero() {
+            Some(line) => Some((line, DeckWhy::UpperBelowZero)),
+            None => None,
+        },
+        _ => None,
+    }
+}
+
+fn head_fault<'a>(
+    course: Course,
+    tables: &Tables<'a>,
+    number: u32,
+    next: Section,
+) -> Option<(u32, DeckWhy)>
+    ensures { result ≡ (known_end_fault course tables.now number or named_at number (course_fault course next)) }
+{
+    if let Some(found) = end_fault(course, tables, number) {
+        return Some(found);
+    }
+    match course.fault(next) {
+        Some(why) => Some((number, why)),
+        None => None,
+    }
+}
+
+fn left_out_fault<'a>(course: Course, tables: &Tables<'a>, number: u32) -> (u32, DeckWhy)
+    ensures { Some result ≡ (known_end_fault course tables.now number or Some (number, LeftOutSection)) }
+{
+    match end_fault(course, tables, number) {
+        Some(found) => found,
+        None => (number, DeckWhy::LeftOutSection),
+    }
+}
+
+fn as_fault(found: (u32, DeckWhy)) -> DeckFault
+    ensures { result ≡ At found.0 found.1 }
+{
+    DeckFault::At {
+        line: found.0,
+        why: found.1,
+    }
+}
+
+fn take_head<'a>(
+    course: &mut Course,
+    tables: &Tables<'a>,
+    number: u32,
+    next: Section,
+) -> Result<(), DeckFault>
+    ensures fault { JudgesAt result (known_end_fault course.old tables.now number or named_at number (course_fault course.old next)) }
+    ensures course { OnOk result (course.new ≡ begin course.old next) }
+{
+    if let Some(found) = head_fault(*course, tables, number, next) {
+        return Err(as_fault(found));
+    }
+    *course = course.begin(next);
+    Ok(())
+}
+
+fn take_entry<'a>(
+    current: Option<Section>,
+    tables: &mut Tables<'a>,
+    line: &SplitLine<'a>,
+) -> Result<(), DeckFault>
+    ensures fault { JudgesAt result (named_at (seen_line line.now).number (known_fault current tables.old (seen_line line.now).fields)) }
+    ensures tables { OnOk result (tables.new ≡ with_data current tables.old (seen_line line.now).number (seen_line line.now).fields) }
+{
+    match tables.take_data(current, line.number, &line.fields) {
+        Err(fault) => Err(at_line(fault, line.number)),
+        Ok(()) => Ok(()),
+    }
+}
+
+// Takes a line by its kind.
+fn take_line<'a>(
+    course: &mut Course,
+    tables: &mut Tables<'a>,
+    line: &SplitLine<'a>,
+) -> Result<(), DeckFault>
+    ensures fault { JudgesAt result (line_fault course.old tables.old (seen_line line.now)) }
+    ensures course { OnOk result (course.new ≡ next_course course.old (seen_line line.now).kind) }
+    ensures tables { OnOk result (tables.new ≡ next_known course.old.current tables.old (seen_line line.now)) }
+{
+    match line.kind {
+        LineKind::Blank | LineKind::Comment => Ok(()),
+        LineKind::Unknown => Err(DeckFault::At {
+            line: line.number,
+            why: DeckWhy::UnknownSection,
+        }),
+        LineKind::LeftOut => Err(as_fault(left_out_fault(*course, tables, line.number))),
+        LineKind::Head(next) => take_head(course, tables, line.number, next),
+        LineKind::Entry => take_entry(course.current, tables, line),
+    }
+}
+
+fn ends_deck(kind: LineKind) -> bool
+    ensures { result ≡ ends_deck kind }
+{
+    matches!(kind, LineKind::Head(Section::Endata))
+}
+
+// Takes a piece of the text, and says whether it ends the deck.
+fn take_piece<'a>(
+    alloc: Global,
+    course: &mut Course,
+    tables: &mut Tables<'a>,
+    number: u32,
+    piece: &'a [u8],
+) -> Result<bool, DeckFault>
+    ensures fault { JudgesAt result (line_fault course.old tables.old (line_of number piece.now)) }
+    ensures course { OnOk result (course.new ≡ next_course course.old (line_of number piece.now).kind) }
+    ensures tables { OnOk result (tables.new ≡ next_known course.old.current tables.old (line_of number piece.now)) }
+    ensures ends { IfOk result (λ b. b ≡ ends_deck (line_of number piece.now).kind) }
+{
+    match line_of(alloc, number, piece) {
+        Err(error) => Err(DeckFault::NoMemory(error)),
+        Ok(line) => match take_line(course, tables, &line) {
+            Ok(()) => Ok(ends_deck(line.kind)),
+            Err(fault) => Err(fault),
+        },
+    }
+}
+
+// Reads the lines up to ENDATA, and gives its line and the place behind it.
+fn read_lines<'a>(
+    alloc: Global,
+    course: &mut Course,
+    tables: &mut Tables<'a>,
+    text: &'a [u8],
+) -> Result<(u32, usize), DeckFault>
+    requires room { length text.now < 2 ^ 32 - 1 }
+    requires course { course.old ≡ course_of [] }
+    requires tables { tables.old ≡ known [] }
+    ensures deck { IfOk result (λ r. answer text.now ≡ Ok (deck_from tables.new r.0, r.1)) }
+    ensures within { IfOk result (λ r. r.1 ≤ length text.now) }
+    ensures fault { IfErr result (λ f. Refuses f (answer text.now)) }
+{
+    let mut rest = text;
+    let mut number: u32 = 1;
+    while !rest.is_empty() {
+        let (piece, after) = first_piece(rest);
+        match take_piece(alloc, course, tables, number, piece) {
+            Ok(true) => return Ok((number, text.len() - after.len())),
+            Ok(false) => {}
+            Err(fault) => return Err(fault),
+        }
+        rest = after;
+        number += 1;
+    }
+    Err(DeckFault::At {
+        line: number,
+        why: DeckWhy::NotClosed,
+    })
+}
+
+fn answer(alloc: Global, text: &[u8]) -> Result<(Deck, usize), DeckFault>
+    requires { length text.now < 2 ^ 32 - 1 }
+    ensures gives { Gives result (answer text.now) }
+    ensures within { IfOk result (λ r. r.1 ≤ length text.now) }
+{
+    let mut course = Course::new();
+    let mut tables = Tables::new(alloc);
+    match read_lines(alloc, &mut course, &mut tables, text) {
+        Err(fault) => Err(fault),
+        Ok((end_line, place)) => match tables.take_deck(alloc, end_line) {
+            Ok(deck) => Ok((deck, place)),
+            Err(error) => Err(DeckFault::NoMemory(error)),
+        },
+    }
+}
 
 /// The deck that the first lines of a text spell, up to and with ENDATA, and the place of the first
 /// byte behind them; or the first fault with its line.
@@ -30,16 +227,7 @@ pub fn read_deck(alloc: Global, text: &[u8]) -> Result<(Deck, usize), DeckFault>
     // A text with a fault is refused with its first one, unless memory is short.
     ensures only_fails { (line : ℕ) (w : why.DeckWhy) → Fails text.now line w → Gives result (Err (line, w)) }
 {
-    Err(DeckFault::NoMemory(AllocError))
-}
-
-/// Whether the lines of a text that begin at a place or behind it are all blank or comments. It
-/// takes no memory; the fault is AfterEnd, at the first other line.
-pub fn nothing_after(text: &[u8], rest: usize) -> Result<(), DeckFault>
-    requires { length text.now < 2 ^ 32 - 1 }
-    ensures { MatchResult result (λ _. first_after text.now rest ≡ None) (λ f. (line : ℕ) × (first_after text.now rest ≡ Some line) × (f ≡ At line AfterEnd)) }
-{
-    Err(DeckFault::At { line: 1, why: DeckWhy::AfterEnd })
+    answer(alloc, text)
 }
 
 /// A text spells at most one deck, up to one place.

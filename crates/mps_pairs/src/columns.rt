@@ -1,0 +1,344 @@
+//! The columns of a text and the entries of the matrix.
+ghost use Rattle.std.specs.Prelude.{◌≡◌, ◌≤◌, ◌+◌, ℕ, List, false, None, Some, ◌∷◌, [], ◌++◌, IfOk, IfErr, OnOk, length, map};
+ghost use Rattle.mps_lex.specs.Shown.{shown};
+ghost use Rattle.mps_pairs.specs.Names.{has, place, add_name};
+ghost use Rattle.mps_pairs.specs.Faults.{◌or◌, marker_fault, split_fault, entry_fault, two_entries_fault, full_fault, column_words_fault, column_fault};
+ghost use Rattle.mps_pairs.specs.Numbers.{value_of};
+ghost use Rattle.mps_pairs.specs.Spelling.{field, entry_at, number_of_row, row_named};
+ghost use Rattle.mps_pairs.specs.Known.{known_columns, rows_here, with_column, Judges};
+
+use crate::deck::Entry;
+use crate::fault::{DeckWhy, Fault};
+use crate::names::Names;
+use crate::rows::{RowTable, RowValue, row_value};
+use lp_base::Sequence;
+use std::alloc::Global;
+use std::marker::Model;
+use std::mem::replace;
+
+/// The columns, the rows in which the last one has entries, how many entries the text names, and
+/// the entries of the deck.
+#[derive(Drop)]
+pub struct ColumnTable<'a> {
+    names: Names<'a>,
+    here: Names<'a>,
+    count: u32,
+    entries: Sequence<Entry>,
+}
+
+impl<'a> Model for ColumnTable<'a> {
+    ghost use Rattle.std.specs.Prelude.{◌≤◌, length};
+    ghost use Rattle.mps_pairs.specs.Known.{KnownColumns};
+
+    ghost Value = { KnownColumns };
+
+    ghost view = { λ t. record { names = t.names; here = t.here; count = t.count; entries = t.entries } };
+
+    ghost invariant = { λ t. (length t.names ≤ 1000) × (t.count ≤ 200000) };
+}
+
+fn marker_fault(fields: &[&[u8]]) -> Option<DeckWhy>
+    ensures { result ≡ marker_fault (map shown fields.now) }
+{
+    match fields {
+        [_, row, ..] => {
+            if *row == b"'MARKER'".as_slice() {
+                return Some(DeckWhy::IntegerMarker);
+            }
+            None
+        }
+        _ => None,
+    }
+}
+
+impl<'a> ColumnTable<'a> {
+    pub fn new(alloc: Global) -> ColumnTable<'a>
+        ensures { result ≡ known_columns [] [] }
+    {
+        ColumnTable {
+            names: Names::new(alloc),
+            here: Names::new(alloc),
+            count: 0,
+            entries: Sequence::new(alloc),
+        }
+    }
+
+    /// The names of the columns.
+    pub fn names(&self) -> &Names<'a>
+        ensures names { result.now ≡ self.now.names }
+        ensures few { length result.now ≤ 1000 }
+    {
+        &self.names
+    }
+
+    /// Takes the entries out.
+    pub fn take_entries(&mut self, alloc: Global) -> Sequence<Entry>
+        ensures { result ≡ self.old.entries }
+    {
+        replace(&mut self.entries, Sequence::new(alloc))
+    }
+
+    // Judges whether the column's lines stand together, and gives its place. What `here` holds is
+    // then of this column.
+    fn begin(&mut self, column: &'a [u8]) -> Result<usize, DeckWhy>
+        ensures right { OnOk result (split_fault self.old.names column.now ≡ None) }
+        ensures index { IfOk result (λ i. i ≡ place self.old.names column.now) }
+        ensures here { OnOk result (self.new ≡ record self.old { here = rows_here self.old column.now }) }
+        ensures fault { IfErr result (λ w. split_fault self.old.names column.now ≡ Some w) }
+    {
+        let index = self.names.place(column);
+        if index + 1 < self.names.len() {
+            return Err(DeckWhy::ColumnSplit);
+        }
+        if self.names.is_behind(index, column) {
+            self.here.clear();
+        }
+        Ok(index)
+    }
+
+    // Judges a row with its value in the column that `here` is of, and notes the row there.
+    fn take_here(
+        &mut self,
+        rows: &RowTable<'a>,
+        row: &'a [u8],
+        value: &'a [u8],
+    ) -> Result<RowValue, Fault>
+        ensures fault { Judges result (entry_fault rows.now (has self.old.here row.now) row.now value.now) }
+        ensures number { IfOk result (λ x. x.number ≡ number_of_row (row_named rows.now row.now)) }
+        ensures value { IfOk result (λ x. x.value ≡ value_of value.now) }
+        ensures ok { OnOk result (self.new ≡ record self.old { here = self.old.here ++ row.now ∷ [] }) }
+    {
+        match row_value(rows, self.here.has(row), row, value) {
+            Err(why) => Err(Fault::Of(why)),
+            Ok(found) => {
+                self.here.push(row)?;
+                Ok(found)
+            }
+        }
+    }
+
+    fn full_fault(&self, index: usize, column: &'a [u8], more: u32) -> Option<DeckWhy>
+        requires few { more ≤ 2 }
+        requires index { index ≡ place self.now.names column.now }
+        ensures { result ≡ full_fault self.now.names self.now.count column.now more }
+    {
+        if (self.names.is_behind(index, column) && self.names.len() >= 1000)
+            || self.count + more > 200_000
+        {
+            return Some(DeckWhy::TooMany);
+        }
+        None
+    }
+
+    // Adds the column's name, if it is new.
+    fn add_name(&mut self, index: usize, column: &'a [u8]) -> Result<(), Fault>
+        requires index { index ≡ place self.old.names column.now }
+        requires room { length (add_name self.old.names column.now) ≤ 1000 }
+        ensures fault { Judges result None }
+        ensures ok { OnOk result (self.new ≡ record self.old { names = add_name self.old.names column.now }) }
+    {
+        if self.names.is_behind(index, column) {
+            self.names.push(column)?;
+        }
+        Ok(())
+    }
+
+    // Adds the entry of a row, unless the row is dropped.
+    fn add(&mut self, column: u32, found: RowValue) -> Result<(), Fault>
+        requires { self.old.count + 1 ≤ 200000 }
+        ensures fault { Judges result None }
+        ensures ok { OnOk result (self.new ≡ record self.old { count = self.old.count + 1; entries = self.old.entries ++ entry_at column found.value found.number }) }
+    {
+        self.count += 1;
+        if let Some(row) = found.number {
+            self.entries.push(Entry {
+                column,
+                row,
+                value: found.value,
+            })?;
+        }
+        Ok(())
+    }
+
+    // Judges the entry of a line, behind the column.
+    #[tactic(auto, using(crate::proofs::Judging::first_tells, crate::proofs::Judging::then_judges))]
+    fn judge_one(
+        &mut self,
+        rows: &RowTable<'a>,
+        index: usize,
+        column: &'a [u8],
+        row: &'a [u8],
+        value: &'a [u8],
+    ) -> Result<RowValue, Fault>
+        requires index { index ≡ place self.old.names column.now }
+        ensures fault { Judges result (entry_fault rows.now (has self.old.here row.now) row.now value.now or full_fault self.old.names self.old.count column.now 1) }
+        ensures number { IfOk result (λ x. x.number ≡ number_of_row (row_named rows.now row.now)) }
+        ensures value { IfOk result (λ x. x.value ≡ value_of value.now) }
+        ensures ok { OnOk result (self.new ≡ record self.old { here = self.old.here ++ row.now ∷ [] }) }
+        ensures room { OnOk result (full_fault self.old.names self.old.count column.now 1 ≡ None) }
+    {
+        match self.take_here(rows, row, value) {
+            Err(fault) => Err(fault),
+            Ok(found) => {
+                if let Some(why) = self.full_fault(index, column, 1) {
+                    return Err(Fault::Of(why));
+                }
+                Ok(found)
+            }
+        }
+    }
+
+    // Adds the column, if it is new, and its entry.
+    fn add_one(&mut self, index: usize, column: &'a [u8], found: RowValue) -> Result<(), Fault>
+        requires index { index ≡ place self.old.names column.now }
+        requires room { full_fault self.old.names self.old.count column.now 1 ≡ None }
+        ensures fault { Judges result None }
+        ensures ok { OnOk result (self.new ≡ record self.old { names = add_name self.old.names column.now; count = self.old.count + 1; entries = self.old.entries ++ entry_at index found.value found.number }) }
+    {
+        if let Err(fault) = self.add_name(index, column) {
+            return Err(fault);
+        }
+        self.add(index as u32, found)
+    }
+
+    #[tactic(auto, using(crate::proofs::Judging::first_tells, crate::proofs::Judging::then_judges))]
+    fn take_one(
+        &mut self,
+        rows: &RowTable<'a>,
+        column: &'a [u8],
+        row: &'a [u8],
+        value: &'a [u8],
+    ) -> Result<(), Fault>
+        ensures fault { Judges result (column_words_fault rows.now self.old.names (rows_here self.old column.now) self.old.count (column.now ∷ row.now ∷ value.now ∷ [])) }
+        ensures ok { OnOk result (self.new ≡ with_column rows.now self.old (column.now ∷ row.now ∷ value.now ∷ [])) }
+    {
+        match self.begin(column) {
+            Err(why) => Err(Fault::Of(why)),
+            Ok(index) => match self.judge_one(rows, index, column, row, value) {
+                Err(fault) => Err(fault),
+                Ok(found) => self.add_one(index, column, found),
+            },
+        }
+    }
+
+    // Judges the two entries of a line, behind the column.
+    #[tactic(auto, using(crate::proofs::Judging::first_tells, crate::proofs::Judging::then_judges))]
+    fn judge_two(
+        &mut self,
+        rows: &RowTable<'a>,
+        row: &'a [u8],
+        value: &'a [u8],
+        second: &'a [u8],
+        other: &'a [u8],
+    ) -> Result<(RowValue, RowValue), Fault>
+        ensures fault { Judges result (two_entries_fault rows.now self.old.here row.now value.now second.now other.now) }
+        ensures number { IfOk result (λ x. x.0.number ≡ number_of_row (row_named rows.now row.now)) }
+        ensures value { IfOk result (λ x. x.0.value ≡ value_of value.now) }
+        ensures second_number { IfOk result (λ x. x.1.number ≡ number_of_row (row_named rows.now second.now)) }
+        ensures second_value { IfOk result (λ x. x.1.value ≡ value_of other.now) }
+        ensures ok { OnOk result (self.new ≡ record self.old { here = (self.old.here ++ row.now ∷ []) ++ second.now ∷ [] }) }
+    {
+        match self.take_here(rows, row, value) {
+            Err(fault) => Err(fault),
+            Ok(first) => match self.take_here(rows, second, other) {
+                Err(fault) => Err(fault),
+                Ok(found) => Ok((first, found)),
+            },
+        }
+    }
+
+    // Adds the column, if it is new, and its entries.
+    fn add_two(
+        &mut self,
+        index: usize,
+        column: &'a [u8],
+        first: RowValue,
+        second: RowValue,
+    ) -> Result<(), Fault>
+        requires index { index ≡ place self.old.names column.now }
+        requires room { full_fault self.old.names self.old.count column.now 2 ≡ None }
+        ensures fault { Judges result None }
+        ensures ok { OnOk result (self.new ≡ record self.old { names = add_name self.old.names column.now; count = (self.old.count + 1) + 1; entries = (self.old.entries ++ entry_at index first.value first.number) ++ entry_at index second.value second.number }) }
+    {
+        if let Err(fault) = self.add_name(index, column) {
+            return Err(fault);
+        }
+        if let Err(fault) = self.add(index as u32, first) {
+            return Err(fault);
+        }
+        self.add(index as u32, second)
+    }
+
+    // Judges and adds the entries of a line, behind the column.
+    #[tactic(auto, using(crate::proofs::Judging::first_tells, crate::proofs::Judging::then_judges))]
+    fn take_both(
+        &mut self,
+        rows: &RowTable<'a>,
+        index: usize,
+        column: &'a [u8],
+        row: &'a [u8],
+        value: &'a [u8],
+        second: &'a [u8],
+        other: &'a [u8],
+    ) -> Result<(), Fault>
+        requires index { index ≡ place self.old.names column.now }
+        ensures fault { Judges result (two_entries_fault rows.now self.old.here row.now value.now second.now other.now or full_fault self.old.names self.old.count column.now 2) }
+        ensures ok { OnOk result (self.new ≡ record {
+            names = add_name self.old.names column.now; here = (self.old.here ++ row.now ∷ []) ++ second.now ∷ []; count = (self.old.count + 1) + 1;
+            entries = (self.old.entries ++ entry_at index (value_of value.now) (number_of_row (row_named rows.now row.now))) ++ entry_at index (value_of other.now) (number_of_row (row_named rows.now second.now)) }) }
+    {
+        match self.judge_two(rows, row, value, second, other) {
+            Err(fault) => Err(fault),
+            Ok((first, found)) => {
+                if let Some(why) = self.full_fault(index, column, 2) {
+                    return Err(Fault::Of(why));
+                }
+                self.add_two(index, column, first, found)
+            }
+        }
+    }
+
+    #[tactic(auto, using(crate::proofs::Judging::first_tells, crate::proofs::Judging::then_judges))]
+    fn take_two(
+        &mut self,
+        rows: &RowTable<'a>,
+        column: &'a [u8],
+        row: &'a [u8],
+        value: &'a [u8],
+        second: &'a [u8],
+        other: &'a [u8],
+    ) -> Result<(), Fault>
+        ensures fault { Judges result (column_words_fault rows.now self.old.names (rows_here self.old column.now) self.old.count (column.now ∷ row.now ∷ value.now ∷ second.now ∷ other.now ∷ [])) }
+        ensures ok { OnOk result (self.new ≡ with_column rows.now self.old (column.now ∷ row.now ∷ value.now ∷ second.now ∷ other.now ∷ [])) }
+    {
+        match self.begin(column) {
+            Err(why) => Err(Fault::Of(why)),
+            Ok(index) => self.take_both(rows, index, column, row, value, second, other),
+        }
+    }
+
+    fn take_words(&mut self, rows: &RowTable<'a>, fields: &[&'a [u8]]) -> Result<(), Fault>
+        ensures fault { Judges result (column_words_fault rows.now self.old.names (rows_here self.old (field 0 (map shown fields.now))) self.old.count (map shown fields.now)) }
+        ensures ok { OnOk result (self.new ≡ with_column rows.now self.old (map shown fields.now)) }
+    {
+        match fields {
+            [column, row, value] => self.take_one(rows, *column, *row, *value),
+            [column, row, value, second, other] => {
+                self.take_two(rows, *column, *row, *value, *second, *other)
+            }
+            _ => Err(Fault::Of(DeckWhy::FieldCount)),
+        }
+    }
+
+    /// Takes a line of COLUMNS, below these rows.
+    #[tactic(auto, using(crate::proofs::Judging::first_tells, crate::proofs::Judging::then_judges))]
+    pub fn take(&mut self, rows: &RowTable<'a>, fields: &[&'a [u8]]) -> Result<(), Fault>
+        ensures fault { Judges result (column_fault rows.now self.old.names (rows_here self.old (field 0 (map shown fields.now))) self.old.count (map shown fields.now)) }
+        ensures ok { OnOk result (self.new ≡ with_column rows.now self.old (map shown fields.now)) }
+    {
+        if let Some(why) = marker_fault(fields) {
+            return Err(Fault::Of(why));
+        }
+        self.take_words(rows, fields)
+    }
+}

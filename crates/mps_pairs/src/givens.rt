@@ -1,0 +1,174 @@
+//! What lines of RHS or RANGES give for rows.
+ghost use Rattle.std.specs.Prelude.{◌≡◌, false, ◌∷◌, [], ◌++◌, OnOk, None, is_some, map, option_map};
+ghost use Rattle.mps_lex.specs.Shown.{shown};
+ghost use Rattle.mps_pairs.specs.Names.{named};
+ghost use Rattle.mps_pairs.specs.Faults.{◌or◌, set_fault, one_given_fault, two_givens_fault, givens_fault};
+ghost use Rattle.mps_pairs.specs.Spelling.{given};
+ghost use Rattle.mps_pairs.specs.Known.{known_givens, with_givens, with_set, set_or, Judges};
+
+use crate::fault::{DeckWhy, Fault};
+use crate::names::NameMap;
+use crate::rows::{RowTable, row_value};
+use lp_nums::Frac;
+use std::alloc::Global;
+use std::marker::Model;
+
+/// The rows of a section with their values, and the name of the set.
+#[derive(Drop)]
+pub struct GivenTable<'a> {
+    set: Option<&'a [u8]>,
+    givens: NameMap<'a, Frac>,
+}
+
+impl<'a> Model for GivenTable<'a> {
+    ghost use Rattle.std.specs.Prelude.{option_map};
+    ghost use Rattle.mps_pairs.specs.Known.{KnownGivens};
+    ghost use Rattle.mps_lex.specs.Shown.{shown};
+
+    ghost Value = { KnownGivens };
+
+    ghost view = { λ t. record { set = option_map shown t.set; givens = t.givens } };
+}
+
+/// Whether this is another set than the first one, if there is one.
+pub fn set_fault(first: Option<&[u8]>, name: &[u8]) -> Option<DeckWhy>
+    ensures { result ≡ set_fault (option_map shown first.entry) name.now }
+{
+    match first {
+        None => None,
+        Some(first) => {
+            if first != name {
+                return Some(DeckWhy::SecondSet);
+            }
+            None
+        }
+    }
+}
+
+impl<'a> GivenTable<'a> {
+    pub fn new(alloc: Global) -> GivenTable<'a>
+        ensures { result ≡ known_givens [] }
+    {
+        GivenTable {
+            set: None,
+            givens: NameMap::new(alloc),
+        }
+    }
+
+    /// The value that is given for a row, if one is.
+    pub fn value(&self, row: &'a [u8]) -> Option<Frac>
+        ensures { result ≡ named self.now.givens row.now }
+    {
+        self.givens.get(row)
+    }
+
+    fn take_set(&mut self, set: &'a [u8]) -> Result<(), Fault>
+        ensures fault { Judges result (set_fault self.old.set set.now) }
+        ensures ok { OnOk result (self.new ≡ with_set self.old set.now) }
+    {
+        if let Some(why) = set_fault(self.set, set) {
+            return Err(Fault::Of(why));
+        }
+        if self.set.is_none() {
+            self.set = Some(set);
+        }
+        Ok(())
+    }
+
+    fn add(&mut self, row: &'a [u8], value: Frac) -> Result<(), Fault>
+        requires { is_some (named self.old.givens row.now) ≡ false }
+        ensures fault { Judges result None }
+        ensures ok { OnOk result (self.new ≡ record self.old { givens = self.old.givens ++ (row.now, value) ∷ [] }) }
+    {
+        self.givens.put(row, value)?;
+        Ok(())
+    }
+
+    fn take_one(
+        &mut self,
+        rows: &RowTable<'a>,
+        row: &'a [u8],
+        value: &'a [u8],
+    ) -> Result<(), Fault>
+        ensures fault { Judges result (one_given_fault rows.now self.old.givens row.now value.now) }
+        ensures ok { OnOk result (self.new ≡ record self.old { givens = self.old.givens ++ given row.now value.now ∷ [] }) }
+    {
+        let twice = self.value(row).is_some();
+        match row_value(rows, twice, row, value) {
+            Err(why) => Err(Fault::Of(why)),
+            Ok(found) => self.add(row, found.value),
+        }
+    }
+
+    #[tactic(auto, using(crate::proofs::Judging::first_tells, crate::proofs::Judging::then_judges))]
+    fn take_two(
+        &mut self,
+        rows: &RowTable<'a>,
+        row: &'a [u8],
+        value: &'a [u8],
+        second: &'a [u8],
+        other: &'a [u8],
+    ) -> Result<(), Fault>
+        ensures fault { Judges result (two_givens_fault rows.now self.old.givens row.now value.now second.now other.now) }
+        ensures ok { OnOk result (self.new ≡ record self.old { givens = (self.old.givens ++ given row.now value.now ∷ []) ++ given second.now other.now ∷ [] }) }
+    {
+        if let Err(fault) = self.take_one(rows, row, value) {
+            return Err(fault);
+        }
+        self.take_one(rows, second, other)
+    }
+
+    #[tactic(auto, using(crate::proofs::Judging::first_tells, crate::proofs::Judging::then_judges))]
+    fn take_set_one(
+        &mut self,
+        rows: &RowTable<'a>,
+        set: &'a [u8],
+        row: &'a [u8],
+        value: &'a [u8],
+    ) -> Result<(), Fault>
+        ensures fault { Judges result (set_fault self.old.set set.now or one_given_fault rows.now self.old.givens row.now value.now) }
+        ensures ok { OnOk result (self.new ≡ record { set = set_or self.old.set set.now; givens = self.old.givens ++ given row.now value.now ∷ [] }) }
+    {
+        if let Err(fault) = self.take_set(set) {
+            return Err(fault);
+        }
+        self.take_one(rows, row, value)
+    }
+
+    #[tactic(auto, using(crate::proofs::Judging::first_tells, crate::proofs::Judging::then_judges))]
+    fn take_set_two(
+        &mut self,
+        rows: &RowTable<'a>,
+        set: &'a [u8],
+        row: &'a [u8],
+        value: &'a [u8],
+        second: &'a [u8],
+        other: &'a [u8],
+    ) -> Result<(), Fault>
+        ensures fault { Judges result (set_fault self.old.set set.now or two_givens_fault rows.now self.old.givens row.now value.now second.now other.now) }
+        ensures ok { OnOk result (self.new ≡ record { set = set_or self.old.set set.now; givens = (self.old.givens ++ given row.now value.now ∷ []) ++ given second.now other.now ∷ [] }) }
+    {
+        if let Err(fault) = self.take_set(set) {
+            return Err(fault);
+        }
+        self.take_two(rows, row, value, second, other)
+    }
+
+    /// Takes a line of the section, below these rows.
+    pub fn take(&mut self, rows: &RowTable<'a>, fields: &[&'a [u8]]) -> Result<(), Fault>
+        ensures fault { Judges result (givens_fault rows.now self.old.set self.old.givens (map shown fields.now)) }
+        ensures ok { OnOk result (self.new ≡ with_givens self.old (map shown fields.now)) }
+    {
+        match fields {
+            [row, value] => self.take_set_one(rows, b"".as_slice(), *row, *value),
+            [set, row, value] => self.take_set_one(rows, *set, *row, *value),
+            [row, value, second, other] => {
+                self.take_set_two(rows, b"".as_slice(), *row, *value, *second, *other)
+            }
+            [set, row, value, second, other] => {
+                self.take_set_two(rows, *set, *row, *value, *second, *other)
+            }
+            _ => Err(Fault::Of(DeckWhy::FieldCount)),
+        }
+    }
+}

@@ -1,0 +1,65 @@
+//! Numbers of a text.
+ghost use Rattle.std.specs.Prelude.{◌≡◌, Some, None, IfOk, IfErr};
+ghost use Rattle.mps_pairs.specs.Decks.{IsDeckNumber};
+ghost use Rattle.mps_pairs.specs.Numbers.{value_of, text_fault, is_zero, is_negative, upper_end, lower_end};
+
+use crate::fault::DeckWhy;
+use lp_nums::{Frac, NumberFault, read_decimal};
+
+/// The number that a text stands for.
+pub fn number_of(text: &[u8]) -> Result<Frac, DeckWhy>
+    ensures right { IfOk result (λ f. text_fault text.now ≡ None) }
+    ensures value { IfOk result (λ f. f ≡ value_of text.now) }
+    ensures small { IfOk result IsDeckNumber }
+    ensures fault { IfErr result (λ w. text_fault text.now ≡ Some w) }
+{
+    match read_decimal(text) {
+        Ok(value) => Ok(value),
+        Err(NumberFault::NumberText) => Err(DeckWhy::NumberText),
+        Err(NumberFault::NumberWide) => Err(DeckWhy::NumberWide),
+    }
+}
+
+/// Whether there is an end, and it is 0.
+pub fn is_zero(end: Option<Frac>) -> bool
+    ensures { result ≡ is_zero end }
+{
+    match end {
+        None => false,
+        Some(value) => value.num() == 0,
+    }
+}
+
+/// Whether there is an end below 0.
+pub fn is_negative(end: Option<Frac>) -> bool
+    ensures { result ≡ is_negative end }
+{
+    match end {
+        None => false,
+        Some(value) => value.num() < 0,
+    }
+}
+
+const FAR: i128 = 100_000_000_000_000_000_000;
+
+/// The upper bound of a value: none from 10^20 on.
+pub fn upper_end(value: Frac) -> Option<Frac>
+    requires { IsDeckNumber value }
+    ensures { result ≡ upper_end value }
+{
+    if FAR * value.den() <= value.num() {
+        return None;
+    }
+    Some(value)
+}
+
+/// The lower bound of a value: none from -10^20 down.
+pub fn lower_end(value: Frac) -> Option<Frac>
+    requires { IsDeckNumber value }
+    ensures { result ≡ lower_end value }
+{
+    if value.num() <= -(FAR * value.den()) {
+        return None;
+    }
+    Some(value)
+}

@@ -1,0 +1,251 @@
+//! Pairs of quantities.
+ghost use Rattle.std.specs.Prelude.{◌≡◌, ◌≤◌, ◌∷◌, [], ◌++◌, false, IfOk, IfErr, OnOk, None, Some, length, map, unwrap_or};
+ghost use Rattle.mps_lex.specs.Shown.{shown};
+ghost use Rattle.mps_pairs.specs.declared.deck.Quantity.TheVariants.{Col, Row};
+ghost use Rattle.mps_pairs.specs.Names.{has, place};
+ghost use Rattle.mps_pairs.specs.Spelling.{is_col, number_of_row, row_named, quantity_of};
+ghost use Rattle.mps_pairs.specs.Decks.{is_inequality};
+ghost use Rattle.mps_pairs.specs.Faults.{◌or◌, is_kind, is_free_from_zero, column_quantity_fault, row_quantity_fault, quantity_fault, pair_front_fault, quantities_fault, many_pairs_fault, pair_fault};
+ghost use Rattle.mps_pairs.specs.Known.{bounds_with, known_pairs, with_pair, Judges};
+
+use crate::bounds::BoundTable;
+use crate::deck::{Column, Letter, PairLine, Quantity};
+use crate::fault::{DeckWhy, Fault};
+use crate::names::Names;
+use crate::numbers::is_zero;
+use crate::rows::RowTable;
+use lp_base::Sequence;
+use std::alloc::Global;
+use std::marker::Model;
+use std::mem::replace;
+
+/// The names of the pairs, and the pairs.
+#[derive(Drop)]
+pub struct PairTable<'a> {
+    names: Names<'a>,
+    pairs: Sequence<PairLine>,
+}
+
+impl<'a> Model for PairTable<'a> {
+    ghost use Rattle.mps_pairs.specs.Known.{KnownPairs};
+
+    ghost Value = { KnownPairs };
+
+    ghost view = { λ t. record { names = t.names; pairs = t.pairs } };
+}
+
+fn is_col(word: &[u8]) -> bool
+    ensures { result ≡ is_col word.now }
+{
+    word == b"COL".as_slice()
+}
+
+fn is_kind(word: &[u8]) -> bool
+    ensures { result ≡ is_kind word.now }
+{
+    word == b"COL".as_slice() || word == b"ROW".as_slice()
+}
+
+fn is_inequality(letter: Letter) -> bool
+    ensures { result ≡ is_inequality letter }
+{
+    match letter {
+        Letter::L | Letter::G => true,
+        Letter::N | Letter::E => false,
+    }
+}
+
+fn is_free_from_zero(column: Column) -> bool
+    ensures { result ≡ is_free_from_zero column }
+{
+    !column.fixed && is_zero(column.lower.value)
+}
+
+fn column_quantity<'a>(
+    columns: &Names<'a>,
+    bounds: &BoundTable<'a>,
+    name: &'a [u8],
+) -> Result<Quantity, DeckWhy>
+    requires { length columns.now ≤ 1000 }
+    ensures right { IfOk result (λ q. column_quantity_fault columns.now (bounds_with bounds.now.columns) name.now ≡ None) }
+    ensures value { IfOk result (λ q. q ≡ Col (place columns.now name.now)) }
+    ensures fault { IfErr result (λ w. column_quantity_fault columns.now (bounds_with bounds.now.columns) name.now ≡ Some w) }
+{
+    let index = columns.place(name);
+    if columns.is_behind(index, name) {
+        return Err(DeckWhy::UnknownName);
+    }
+    if !is_free_from_zero(bounds.bounds(name)) {
+        return Err(DeckWhy::PairLower);
+    }
+    Ok(Quantity::Col(index as u32))
+}
+
+fn row_quantity<'a>(rows: &RowTable<'a>, name: &'a [u8]) -> Result<Quantity, DeckWhy>
+    ensures right { IfOk result (λ q. row_quantity_fault (row_named rows.now name.now) ≡ None) }
+    ensures value { IfOk result (λ q. q ≡ Row (unwrap_or (number_of_row (row_named rows.now name.now)) 0)) }
+    ensures fault { IfErr result (λ w. row_quantity_fault (row_named rows.now name.now) ≡ Some w) }
+{
+    match rows.find(name) {
+        None => Err(DeckWhy::UnknownName),
+        Some(row) => {
+            if !is_inequality(row.letter) {
+                return Err(DeckWhy::PairKind);
+            }
+            Ok(Quantity::Row(row.number.unwrap_or(0)))
+        }
+    }
+}
+
+fn quantity<'a>(
+    rows: &RowTable<'a>,
+    columns: &Names<'a>,
+    bounds: &BoundTable<'a>,
+    kind: &'a [u8],
+    name: &'a [u8],
+) -> Result<Quantity, DeckWhy>
+    requires { length columns.now ≤ 1000 }
+    ensures right { IfOk result (λ q. quantity_fault rows.now columns.now (bounds_with bounds.now.columns) kind.now name.now ≡ None) }
+    ensures value { IfOk result (λ q. q ≡ quantity_of rows.now columns.now kind.now name.now) }
+    ensures fault { IfErr result (λ w. quantity_fault rows.now columns.now (bounds_with bounds.now.columns) kind.now name.now ≡ Some w) }
+{
+    if is_col(kind) {
+        return column_quantity(columns, bounds, name);
+    }
+    row_quantity(rows, name)
+}
+
+// The two quantities of a pair.
+#[tactic(auto, using(crate::proofs::Judging::first_is, crate::proofs::Judging::then_is))]
+fn quantities<'a>(
+    rows: &RowTable<'a>,
+    columns: &Names<'a>,
+    bounds: &BoundTable<'a>,
+    kind: &'a [u8],
+    name: &'a [u8],
+    other: &'a [u8],
+    second: &'a [u8],
+) -> Result<PairLine, DeckWhy>
+    requires { length columns.now ≤ 1000 }
+    ensures right { IfOk result (λ q. quantities_fault rows.now columns.now (bounds_with bounds.now.columns) kind.now name.now other.now second.now ≡ None) }
+    ensures value { IfOk result (λ q. q ≡ record { a = quantity_of rows.now columns.now kind.now name.now; b = quantity_of rows.now columns.now other.now second.now }) }
+    ensures fault { IfErr result (λ w. quantities_fault rows.now columns.now (bounds_with bounds.now.columns) kind.now name.now other.now second.now ≡ Some w) }
+{
+    match quantity(rows, columns, bounds, kind, name) {
+        Err(why) => Err(why),
+        Ok(a) => match quantity(rows, columns, bounds, other, second) {
+            Err(why) => Err(why),
+            Ok(b) => Ok(PairLine { a, b }),
+        },
+    }
+}
+
+impl<'a> PairTable<'a> {
+    pub fn new(alloc: Global) -> PairTable<'a>
+        ensures { result ≡ known_pairs [] [] [] }
+    {
+        PairTable {
+            names: Names::new(alloc),
+            pairs: Sequence::new(alloc),
+        }
+    }
+
+    /// Takes the pairs out.
+    pub fn take_pairs(&mut self, alloc: Global) -> Sequence<PairLine>
+        ensures { result ≡ self.old.pairs }
+    {
+        replace(&mut self.pairs, Sequence::new(alloc))
+    }
+
+    // What is wrong with a pair's kinds or its name.
+    fn front_fault(&self, name: &'a [u8], kind: &'a [u8], other: &'a [u8]) -> Option<DeckWhy>
+        ensures { result ≡ pair_front_fault self.now.names name.now kind.now other.now }
+    {
+        if !is_kind(kind) || !is_kind(other) {
+            return Some(DeckWhy::PairKind);
+        }
+        if self.names.has(name) {
+            return Some(DeckWhy::NameTwice);
+        }
+        None
+    }
+
+    fn push(&mut self, name: &'a [u8], pair: PairLine) -> Result<(), Fault>
+        requires { has self.old.names name.now ≡ false }
+        ensures fault { Judges result (many_pairs_fault self.old.names) }
+        ensures ok { OnOk result (self.new ≡ record { names = self.old.names ++ name.now ∷ []; pairs = self.old.pairs ++ pair ∷ [] }) }
+    {
+        if self.names.len() >= 512 {
+            return Err(Fault::Of(DeckWhy::TooMany));
+        }
+        self.names.push(name)?;
+        self.pairs.push(pair)?;
+        Ok(())
+    }
+
+    // Judges the quantities of a pair, and adds it.
+    #[tactic(auto, using(crate::proofs::Judging::first_tells, crate::proofs::Judging::then_judges))]
+    fn take_quantities(
+        &mut self,
+        rows: &RowTable<'a>,
+        columns: &Names<'a>,
+        bounds: &BoundTable<'a>,
+        name: &'a [u8],
+        kind: &'a [u8],
+        first: &'a [u8],
+        other: &'a [u8],
+        second: &'a [u8],
+    ) -> Result<(), Fault>
+        requires few { length columns.now ≤ 1000 }
+        requires fresh { has self.old.names name.now ≡ false }
+        ensures fault { Judges result (quantities_fault rows.now columns.now (bounds_with bounds.now.columns) kind.now first.now other.now second.now or many_pairs_fault self.old.names) }
+        ensures ok { OnOk result (self.new ≡ with_pair rows.now columns.now self.old (name.now ∷ kind.now ∷ first.now ∷ other.now ∷ second.now ∷ [])) }
+    {
+        match quantities(rows, columns, bounds, kind, first, other, second) {
+            Err(why) => Err(Fault::Of(why)),
+            Ok(pair) => self.push(name, pair),
+        }
+    }
+
+    #[tactic(auto, using(crate::proofs::Judging::first_tells, crate::proofs::Judging::then_judges))]
+    fn take_pair(
+        &mut self,
+        rows: &RowTable<'a>,
+        columns: &Names<'a>,
+        bounds: &BoundTable<'a>,
+        name: &'a [u8],
+        kind: &'a [u8],
+        first: &'a [u8],
+        other: &'a [u8],
+        second: &'a [u8],
+    ) -> Result<(), Fault>
+        requires few { length columns.now ≤ 1000 }
+        ensures fault { Judges result (pair_fault rows.now columns.now (bounds_with bounds.now.columns) self.old.names (name.now ∷ kind.now ∷ first.now ∷ other.now ∷ second.now ∷ [])) }
+        ensures ok { OnOk result (self.new ≡ with_pair rows.now columns.now self.old (name.now ∷ kind.now ∷ first.now ∷ other.now ∷ second.now ∷ [])) }
+    {
+        if let Some(why) = self.front_fault(name, kind, other) {
+            return Err(Fault::Of(why));
+        }
+        self.take_quantities(rows, columns, bounds, name, kind, first, other, second)
+    }
+
+    /// Takes a line of PAIRS, below these rows, columns and bounds.
+    pub fn take(
+        &mut self,
+        rows: &RowTable<'a>,
+        columns: &Names<'a>,
+        bounds: &BoundTable<'a>,
+        fields: &[&'a [u8]],
+    ) -> Result<(), Fault>
+        requires few { length columns.now ≤ 1000 }
+        ensures fault { Judges result (pair_fault rows.now columns.now (bounds_with bounds.now.columns) self.old.names (map shown fields.now)) }
+        ensures ok { OnOk result (self.new ≡ with_pair rows.now columns.now self.old (map shown fields.now)) }
+    {
+        match fields {
+            [name, kind, first, other, second] => self.take_pair(
+                rows, columns, bounds, *name, *kind, *first, *other, *second,
+            ),
+            _ => Err(Fault::Of(DeckWhy::FieldCount)),
+        }
+    }
+}

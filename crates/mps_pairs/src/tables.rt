@@ -1,0 +1,208 @@
+//! The reader's tables.
+ghost use Rattle.std.specs.Prelude.{◌≡◌, ◌≤◌, ◌∷◌, ◌++◌, OnOk, IfOk, [], map, length};
+ghost use Rattle.std.specs.List.{position_or_len};
+ghost use Rattle.mps_lex.specs.Shown.{shown};
+ghost use Rattle.mps_pairs.specs.Spelling.{is_n, has_objective, kept, deck_row};
+ghost use Rattle.mps_pairs.specs.Known.{known, known_fault, bounds_with, with_bound, with_pair, with_data, deck_from, Judges};
+ghost use Rattle.mps_pairs.specs.Bounds.{below_zero_line};
+ghost use Rattle.mps_pairs.specs.Faults.{bound_fault, pair_fault};
+ghost use Rattle.mps_pairs.specs.Seen.{seen_row};
+
+use crate::bounds::BoundTable;
+use crate::columns::ColumnTable;
+use crate::deck::{Column, Deck, Row};
+use crate::fault::{DeckWhy, Fault};
+use crate::givens::GivenTable;
+use crate::names::Names;
+use crate::pairs::PairTable;
+use crate::rows::{RowState, RowTable, is_n};
+use lp_base::Sequence;
+use lp_nums::Frac;
+use mps_lex::Section;
+use std::alloc::{AllocError, Global};
+use std::marker::Model;
+
+/// What is known of the lines so far.
+#[derive(Drop)]
+pub struct Tables<'a> {
+    rows: RowTable<'a>,
+    columns: ColumnTable<'a>,
+    rights: GivenTable<'a>,
+    ranges: GivenTable<'a>,
+    bounds: BoundTable<'a>,
+    pairs: PairTable<'a>,
+}
+
+impl<'a> Model for Tables<'a> {
+    ghost use Rattle.mps_pairs.specs.Known.{Known};
+
+    ghost Value = { Known };
+
+    ghost view = { λ t. record { rows = t.rows; columns = t.columns; rights = t.rights; ranges = t.ranges; bounds = t.bounds; pairs = t.pairs } };
+}
+
+// The row of a deck.
+fn deck_row<'a>(
+    rights: &GivenTable<'a>,
+    ranges: &GivenTable<'a>,
+    name: &'a [u8],
+    row: RowState,
+) -> Row
+    ensures { result ≡ deck_row rights.now.givens ranges.now.givens (seen_row (name.now, row)) }
+{
+    Row {
+        letter: row.letter,
+        line: row.line,
+        rhs: rights.value(name).unwrap_or(Frac::whole(0)),
+        range: if is_n(row.letter) {
+            None
+        } else {
+            ranges.value(name)
+        },
+    }
+}
+
+// Adds a row, if it is one of the deck.
+fn add_row<'a>(
+    found: &mut Sequence<Row>,
+    rights: &GivenTable<'a>,
+    ranges: &GivenTable<'a>,
+    name: &'a [u8],
+    row: RowState,
+) -> Result<(), AllocError>
+    ensures { OnOk result (found.new ≡ found.old ++ map (deck_row rights.now.givens ranges.now.givens) (kept (seen_row (name.now, row) ∷ []))) }
+{
+    if row.number.is_some() {
+        found.push(deck_row(rights, ranges, name, row))?;
+    }
+    Ok(())
+}
+
+fn deck_rows<'a>(
+    alloc: Global,
+    rows: &RowTable<'a>,
+    rights: &GivenTable<'a>,
+    ranges: &GivenTable<'a>,
+) -> Result<Sequence<Row>, AllocError>
+    ensures { IfOk result (λ found. found ≡ map (deck_row rights.now.givens ranges.now.givens) (kept rows.now)) }
+{
+    let mut found = Sequence::new(alloc);
+    for index in 0..rows.len() {
+        if let Some((name, row)) = rows.at(index) {
+            add_row(&mut found, rights, ranges, name, row)?;
+        }
+    }
+    Ok(found)
+}
+
+// The place of the first N row, or the number of rows.
+fn objective_of(rows: &[Row]) -> usize
+    ensures place { result ≡ position_or_len (λ r. is_n r.letter) rows.now }
+    ensures within { result ≤ length rows.now }
+{
+    let mut index = 0;
+    while index < rows.len() && !is_n(rows[index].letter) {
+        index += 1;
+    }
+    index
+}
+
+fn deck_columns<'a>(
+    alloc: Global,
+    names: &Names<'a>,
+    bounds: &BoundTable<'a>,
+) -> Result<Sequence<Column>, AllocError>
+    ensures { IfOk result (λ found. found ≡ map (bounds_with bounds.now.columns) names.now) }
+{
+    let mut found = Sequence::new(alloc);
+    for index in 0..names.len() {
+        if let Some(name) = names.at(index) {
+            found.push(bounds.bounds(name))?;
+        }
+    }
+    Ok(found)
+}
+
+impl<'a> Tables<'a> {
+    pub fn new(alloc: Global) -> Tables<'a>
+        ensures { result ≡ known [] }
+    {
+        Tables {
+            rows: RowTable::new(alloc),
+            columns: ColumnTable::new(alloc),
+            rights: GivenTable::new(alloc),
+            ranges: GivenTable::new(alloc),
+            bounds: BoundTable::new(alloc),
+            pairs: PairTable::new(alloc),
+        }
+    }
+
+    /// Whether there is an N row.
+    pub fn has_objective(&self) -> bool
+        ensures { result ≡ has_objective self.now.rows }
+    {
+        self.rows.has_objective()
+    }
+
+    /// The least line that set an upper bound below 0 of a column whose lower bound no line has set
+    /// or removed.
+    pub fn below_zero(&self) -> Option<u32>
+        ensures { result ≡ below_zero_line (map (λ e. e.1) self.now.bounds.columns) }
+    {
+        self.bounds.below_zero()
+    }
+
+    fn take_bound(&mut self, number: u32, fields: &[&'a [u8]]) -> Result<(), Fault>
+        ensures fault { Judges result (bound_fault self.old.columns.names self.old.bounds.set (map shown fields.now)) }
+        ensures ok { OnOk result (self.new ≡ record self.old { bounds = with_bound self.old.bounds number (map shown fields.now) }) }
+    {
+        self.bounds.take(self.columns.names(), number, fields)
+    }
+
+    fn take_pair(&mut self, fields: &[&'a [u8]]) -> Result<(), Fault>
+        ensures fault { Judges result (pair_fault self.old.rows self.old.columns.names (bounds_with self.old.bounds.columns) self.old.pairs.names (map shown fields.now)) }
+        ensures ok { OnOk result (self.new ≡ record self.old { pairs = with_pair self.old.rows self.old.columns.names self.old.pairs (map shown fields.now) }) }
+    {
+        self.pairs
+            .take(&self.rows, self.columns.names(), &self.bounds, fields)
+    }
+
+    /// Takes a data line of what stands open.
+    pub fn take_data(
+        &mut self,
+        current: Option<Section>,
+        number: u32,
+        fields: &[&'a [u8]],
+    ) -> Result<(), Fault>
+        ensures fault { Judges result (known_fault current self.old (map shown fields.now)) }
+        ensures ok { OnOk result (self.new ≡ with_data current self.old number (map shown fields.now)) }
+    {
+        match current {
+            Some(Section::Rows) => self.rows.take(number, fields),
+            Some(Section::Columns) => self.columns.take(&self.rows, fields),
+            Some(Section::Rhs) => self.rights.take(&self.rows, fields),
+            Some(Section::Ranges) => self.ranges.take(&self.rows, fields),
+            Some(Section::Bounds) => self.take_bound(number, fields),
+            Some(Section::Pairs) => self.take_pair(fields),
+            None | Some(Section::Name | Section::Endata) => {
+                Err(Fault::Of(DeckWhy::SectionOrder))
+            }
+        }
+    }
+
+    /// Takes the deck out, with the line of ENDATA.
+    pub fn take_deck(&mut self, alloc: Global, end_line: u32) -> Result<Deck, AllocError>
+        ensures { IfOk result (λ d. d ≡ deck_from self.old end_line) }
+    {
+        let rows = deck_rows(alloc, &self.rows, &self.rights, &self.ranges)?;
+        let columns = deck_columns(alloc, self.columns.names(), &self.bounds)?;
+        Ok(Deck {
+            objective: objective_of(rows.as_slice()) as u32,
+            rows,
+            columns,
+            entries: self.columns.take_entries(alloc),
+            pairs: self.pairs.take_pairs(alloc),
+            end_line,
+        })
+    }
+}
