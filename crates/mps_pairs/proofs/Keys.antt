@@ -6,7 +6,10 @@ use Rattle.std.proofs.lemmas.Bool.{ltb-false}
 use Rattle.std.proofs.lemmas.List.Sums.{prefix_len-le-length}
 use Rattle.std.specs.Str.{bytes_eq}
 use Rattle.mps_lex.specs.Shown.{shown}
-use Rattle.mps_pairs.specs.Names.{has, place, add_name}
+use Rattle.std.specs.Map.{lookup}
+use Rattle.indexmap.specs.IndexMap.{insert_entry}
+use Rattle.mps_pairs.specs.Names.{has, place, add_name, named, put}
+use Rattle.mps_pairs.specs.Seen.{shown_entry}
 
 pub any_shown : (n : List ℕ) (ks : List (Bor (List ℕ))) → list_any (λ k. bytes_eq n k.now) ks ≡ has (map shown ks) n
 any_shown n [] = refl
@@ -45,3 +48,18 @@ by_added false ks k = map_push ks k
 
 pub added : (ks : List (Bor (List ℕ))) (k : Bor (List ℕ)) → map shown (cond (list_any (λ x. bytes_eq k.now x.now) ks) ks (ks ++ k ∷ [])) ≡ add_name (map shown ks) k.now
 added ks k = by_added (list_any (λ x. bytes_eq k.now x.now) ks) ks k ∙ ap (λ (b : Bool). cond b (map shown ks) (map shown ks ++ k.now ∷ [])) (any_shown k.now ks)
+
+-- ---- names with what is known of each
+
+pub named_shown : {T : Type 0} (n : List ℕ) (es : List (Bor (List ℕ) × T)) → lookup (λ k. bytes_eq n k.now) es ≡ named (map shown_entry es) n
+named_shown n [] = refl
+named_shown n (e ∷ es) = ap (cond (bytes_eq n e.0.now) (Some e.1)) (named_shown n es)
+
+by_put : {T : Type 0} (b : Bool) (e : Bor (List ℕ) × T) (x : T) (es fs : List (Bor (List ℕ) × T)) (gs : List (List ℕ × T)) → map shown_entry fs ≡ gs
+    → map shown_entry (cond b ((e.0, x) ∷ es) (e ∷ fs)) ≡ cond b ((e.0.now, x) ∷ map shown_entry es) (shown_entry e ∷ gs)
+by_put true e x es fs gs h = refl
+by_put false e x es fs gs h = ap (λ t. shown_entry e ∷ t) h
+
+pub put_shown : {T : Type 0} (k : Bor (List ℕ)) (x : T) (es : List (Bor (List ℕ) × T)) → map shown_entry (insert_entry (λ a b. bytes_eq a.now b.now) es k x) ≡ put (map shown_entry es) k.now x
+put_shown k x [] = refl
+put_shown k x (e ∷ es) = by_put (bytes_eq k.now e.0.now) e x es _ _ (put_shown k x es)
