@@ -1,0 +1,8 @@
+use Rattle.std.proofs.Common.{ℕ, List}
+use Rattle.mps_pairs.specs.declared.deck.Deck.{Deck}
+use Rattle.mps_pairs.specs.Decks.{IsDeck}
+use Rattle.mps_pairs.specs.Texts.{Spells}
+use Rattle.mps_pairs.proofs.KeptNumbers.{number_kept}
+
+pub spelled_keeps : (text : List ℕ) (d : Deck) (p : ℕ) → Spells text d p → IsDeck d
+spelled_keeps text d p w = ?
