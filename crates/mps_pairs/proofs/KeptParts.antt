@@ -70,3 +70,8 @@ pub get_map : {X Y : Type 0} (g : X → Y) (xs : List X) (i : ℕ) (x : X) → s
 get_map g [] i x e = absurd cc
 get_map g (y ∷ xs) zero x e = ap (option_map g) e
 get_map g (y ∷ xs) (suc i) x e = get_map g xs i x e
+
+pub get_mapped : {X Y : Type 0} (g : X → Y) (xs : List X) (i : ℕ) (y : Y) → slice_get (map g xs) i ≡ Some y → (x : X) × (slice_get xs i ≡ Some x) × (g x ≡ y)
+get_mapped g [] i y e = absurd cc
+get_mapped g (x ∷ xs) zero y e = (x, refl, same_Some (g x) y e)
+get_mapped g (x ∷ xs) (suc i) y e = get_mapped g xs i y e
