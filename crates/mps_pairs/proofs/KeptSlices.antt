@@ -3,6 +3,7 @@
 use Rattle.std.proofs.Common.{ℕ, ◌+◌, ◌≤◌, ◌<◌, ◌≡◌, Bool, true, false, not, ◌&&◌, cond, List, [], ◌∷◌, ◌++◌, Option, Some, None, refl, sym, ap, subst, ◌∙◌, append_assoc, leb, arith}
 use Rattle.std.proofs.lemmas.Bool.{and_parts, and_cases, leb-true, eqb-true, not-false, true≢false}
 use Rattle.std.proofs.lemmas.List.{append-nil}
+use Rattle.std.specs.List.{AllByRecursion}
 use Rattle.mps_lex.specs.Kinds.{Name as Word}
 use Rattle.mps_lex.specs.Lines.{Line}
 use Rattle.mps_lex.specs.declared.line.Section.{Section}
@@ -62,6 +63,11 @@ right_nil fault ls e = subst (λ (x : List Line). IsRightBy fault [] x) (sym e) 
 pub by_lines : (fault : FaultBehind) (Q : List Line → Type 0) → ((before : List Line) (l : Line) → Q before → fault before l.fields ≡ None → Q (before ++ l ∷ [])) → (before ls : List Line) → Q before → IsRightBy fault before ls → Q (before ++ ls)
 by_lines fault Q step before [] q h = subst Q (sym (append-nil before)) q
 by_lines fault Q step before (l ∷ ls) q h = subst Q (append_assoc before (l ∷ []) ls) (by_lines fault Q step (before ++ l ∷ []) ls (step before l q h.0) h.1)
+
+-- what each line has by itself
+pub each_line : (fault : FaultBehind) (P : List Word → Type 0) → ((before : List Line) (fs : List Word) → fault before fs ≡ None → P fs) → (before ls : List Line) → IsRightBy fault before ls → AllByRecursion (λ l. P l.fields) ls
+each_line fault P one before [] h = tt
+each_line fault P one before (l ∷ ls) h = (one before l.fields h.0, each_line fault P one (before ++ l ∷ []) ls h.1)
 
 -- ---- the slices of the sections
 
