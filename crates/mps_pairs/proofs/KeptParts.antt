@@ -51,10 +51,6 @@ all_at P [] i x a e = absurd cc
 all_at P (y ∷ xs) zero x a e = subst P (same_Some y x e) a.0
 all_at P (y ∷ xs) (suc i) x a e = all_at P xs i x a.1 e
 
-pub every : {X : Type 0} (P : X → Type 0) (h : (x : X) → P x) (xs : List X) → AllByRecursion P xs
-every P h [] = tt
-every P h (x ∷ xs) = (h x, every P h xs)
-
 -- ---- elements at places
 
 pub get_front : {X : Type 0} (xs ys : List X) (i : ℕ) (x : X) → slice_get xs i ≡ Some x → slice_get (xs ++ ys) i ≡ Some x
@@ -75,3 +71,7 @@ pub get_mapped : {X Y : Type 0} (g : X → Y) (xs : List X) (i : ℕ) (y : Y) �
 get_mapped g [] i y e = absurd cc
 get_mapped g (x ∷ xs) zero y e = (x, refl, same_Some (g x) y e)
 get_mapped g (x ∷ xs) (suc i) y e = get_mapped g xs i y e
+
+pub every_map : {X Y : Type 0} (P : Y → Type 0) (g : X → Y) (h : (x : X) → P (g x)) (xs : List X) → AllByRecursion P (map g xs)
+every_map P g h [] = tt
+every_map P g h (x ∷ xs) = (h x, every_map P g h xs)

@@ -1,0 +1,140 @@
+-- Pairs speak of quantities of the deck, and there are not too many.
+use Rattle.std.proofs.Common.{ℕ, ◌+◌, ◌≤◌, ◌<◌, ◌≡◌, ℤ, pos, ◌≤ℤ◌, Bool, true, false, not, ◌&&◌, ◌||◌, cond, List, [], ◌∷◌, ◌++◌, length, map, Option, Some, None, refl, sym, ap, subst, ◌∙◌, leb, arith}
+use Prim.Native.Nat.{◌∣◌}
+use Rattle.std.proofs.lemmas.Bool.{leb-false, and_parts, not-true}
+use Rattle.std.proofs.lemmas.Bool.Decides.{Decides-int_eq}
+use Rattle.std.proofs.lemmas.Int.{ints}
+use Rattle.std.proofs.lemmas.List.{length-append, length-map}
+use Rattle.std.proofs.lemmas.Nat.Gcd.{dvd_refl, dvd-zero, le_of_dvd}
+use Rattle.std.specs.Prelude.{IfSome, slice_get, unsigned_abs, unwrap_or}
+use Rattle.std.specs.List.{AllByRecursion}
+use Rattle.lp_nums.specs.Fractions.{Fraction}
+use Rattle.mps_lex.specs.Kinds.{Name}
+use Rattle.mps_lex.specs.Lines.{Line}
+use Rattle.mps_pairs.specs.declared.deck.Deck.{Deck}
+use Rattle.mps_pairs.specs.declared.deck.Column.{Column}
+use Rattle.mps_pairs.specs.declared.deck.Row as made
+use Rattle.mps_pairs.specs.declared.deck.PairLine.{PairLine}
+use Rattle.mps_pairs.specs.declared.deck.Letter.{Letter}
+use Rattle.mps_pairs.specs.declared.deck.Letter.TheVariants.{N, E, L, G}
+use Rattle.mps_pairs.specs.declared.deck.Quantity.TheVariants.{Col, Row}
+use Rattle.mps_pairs.specs.declared.fault.DeckWhy.TheVariants.{NameTwice, UnknownName, PairKind, PairLower, TooMany}
+use Rattle.mps_pairs.specs.Decks.{IsDeckNumber, NamesQuantity, is_inequality, zero}
+use Rattle.mps_pairs.specs.Names.{has, place}
+use Rattle.mps_pairs.specs.Numbers.{is_zero}
+use Rattle.mps_pairs.specs.Bounds.{Setting, settings_in, column_bounds}
+use Rattle.mps_pairs.specs.Spelling.{field, is_n, RowLine, kept, rows_of, row_names, row_named, column_names, Given, deck_row, pair_names, is_col, quantity_of, pair_of, deck_pairs}
+use Rattle.mps_pairs.specs.Faults.{◌or◌, fault_if, is_kind, is_free_from_zero, column_quantity_fault, row_quantity_fault, quantity_fault, pair_fault}
+use Rattle.mps_pairs.proofs.KeptParts.{first_none, second_none, if_none, unless_none, get_map, all_map}
+use Rattle.mps_pairs.proofs.KeptNames.{get_place}
+use Rattle.mps_pairs.proofs.KeptRows.{RowsKept, PlacedAs, named_placed}
+use Rattle.mps_pairs.proofs.KeptBounds.{SettingsKept, column_is}
+use Rattle.mps_pairs.proofs.KeptSlices.{IsRightBy, pairs_fault, by_lines, each_line}
+
+-- ---- 0 in lowest terms
+
+one_of : (d : ℤ) → pos 1 ≤ℤ d → unsigned_abs d ≤ 1 → d ≡ pos 1
+one_of d some few = omega (arith, ints)
+
+zero_is : (f : Fraction) → IsDeckNumber f → f.num ≡ pos 0 → f ≡ zero
+zero_is f h e =
+    let none : unsigned_abs f.den ∣ unsigned_abs f.num = subst (λ (n : ℤ). unsigned_abs f.den ∣ unsigned_abs n) (sym e) (dvd-zero (unsigned_abs f.den)) in
+    let few : unsigned_abs f.den ≤ 1 = le_of_dvd (omega arith) (h.lowest.lowest.2 (unsigned_abs f.den) none (dvd_refl (unsigned_abs f.den))) in
+    let den : f.den ≡ pos 1 = one_of f.den h.lowest.positive few in
+    λ i. record { num = e i; den = den i }
+
+zero_end : (o : Option Fraction) → IfSome o IsDeckNumber → is_zero o ≡ true → o ≡ Some zero
+zero_end None h e = absurd cc
+zero_end (Some f) h e = ap (λ (x : Fraction). Some x) (zero_is f h ((Decides-int_eq f.num (pos 0)).0 e))
+
+-- ---- a quantity
+
+-- the deck has these rows and columns
+pub record IsMade (d : Deck) (rows : List RowLine) (columns : List Name) (ss : List Setting) (rights ranges : List Given) : Type 0 where
+  pub rows_are : d.rows ≡ map (deck_row rights ranges) (kept rows)
+  pub columns_are : d.columns ≡ map (column_bounds ss) columns
+
+column_named : (d : Deck) (rows : List RowLine) (columns : List Name) (ss : List Setting) (rights ranges : List Given) (n : Name) → IsMade d rows columns ss rights ranges → SettingsKept ss → column_quantity_fault columns ss n ≡ None → NamesQuantity d (Col (place columns n))
+column_named d rows columns ss rights ranges n m h e =
+    let unknown = fault_if (not (has columns n)) UnknownName in
+    let lower = fault_if (not (is_free_from_zero (column_bounds ss n))) PairLower in
+    let stands : has columns n ≡ true = unless_none (has columns n) UnknownName (first_none unknown lower e) in
+    let open_end = and_parts (not (column_bounds ss n).fixed) (is_zero (column_bounds ss n).lower.value) (unless_none (is_free_from_zero (column_bounds ss n)) PairLower (second_none unknown lower e)) in
+    let here = ap (λ (x : List Column). slice_get x (place columns n)) m.columns_are ∙ get_map (column_bounds ss) columns (place columns n) n (get_place columns n stands) in
+    (column_bounds ss n, here, not-true _ open_end.0, zero_end (column_bounds ss n).lower.value (column_is ss h n).lower open_end.1)
+
+not_dropped : (l : Letter) → is_n l ≡ true → is_inequality l ≡ true → ⊥
+not_dropped N e f = absurd cc
+not_dropped E e f = absurd cc
+not_dropped L e f = absurd cc
+not_dropped G e f = absurd cc
+
+row_at : (d : Deck) (rows : List RowLine) (columns : List Name) (ss : List Setting) (rights ranges : List Given) (r : RowLine) (o : Option ℕ) → IsMade d rows columns ss rights ranges → is_inequality r.letter ≡ true → PlacedAs (kept rows) r o → NamesQuantity d (Row (unwrap_or o 0))
+row_at d rows columns ss rights ranges r None m e p = absurd (not_dropped r.letter p e)
+row_at d rows columns ss rights ranges r (Some k) m e p =
+    (deck_row rights ranges r, ap (λ (x : List made.Row). slice_get x k) m.rows_are ∙ get_map (deck_row rights ranges) (kept rows) k r p, e)
+
+quantity_named : (d : Deck) (rows : List RowLine) (columns : List Name) (ss : List Setting) (rights ranges : List Given) (b : Bool) (n : Name) → IsMade d rows columns ss rights ranges → RowsKept rows → SettingsKept ss
+    → cond b (column_quantity_fault columns ss n) (row_quantity_fault rows n) ≡ None → NamesQuantity d (cond b (Col (place columns n)) (Row (unwrap_or (row_named rows n).number 0)))
+quantity_named d rows columns ss rights ranges true n m h k e = column_named d rows columns ss rights ranges n m k e
+quantity_named d rows columns ss rights ranges false n m h k e =
+    let unknown = fault_if (not (has (row_names rows) n)) UnknownName in
+    let kind = fault_if (not (is_inequality (row_named rows n).letter)) PairKind in
+    let stands : has (row_names rows) n ≡ true = unless_none (has (row_names rows) n) UnknownName (first_none unknown kind e) in
+    row_at d rows columns ss rights ranges (row_named rows n) (row_named rows n).number m (unless_none (is_inequality (row_named rows n).letter) PairKind (second_none unknown kind e)) (named_placed rows n h stands)
+
+-- ---- a line
+
+record IsPairRight (rows : List RowLine) (columns : List Name) (ss : List Setting) (fs : List Name) : Type 0 where
+  pub first : quantity_fault rows columns ss (field 1 fs) (field 2 fs) ≡ None
+  pub second : quantity_fault rows columns ss (field 3 fs) (field 4 fs) ≡ None
+
+record IsPairLine (rows : List RowLine) (columns : List Name) (ss : List Setting) (pairs fs : List Name) : Type 0 where
+  pub right : IsPairRight rows columns ss fs
+  pub few : length pairs < 512
+
+pair_line : (rows : List RowLine) (columns : List Name) (ss : List Setting) (pairs fs : List Name) → pair_fault rows columns ss pairs fs ≡ None → IsPairLine rows columns ss pairs fs
+pair_line rows columns ss pairs [] e = absurd cc
+pair_line rows columns ss pairs (p ∷ []) e = absurd cc
+pair_line rows columns ss pairs (p ∷ k ∷ []) e = absurd cc
+pair_line rows columns ss pairs (p ∷ k ∷ a ∷ []) e = absurd cc
+pair_line rows columns ss pairs (p ∷ k ∷ a ∷ l ∷ []) e = absurd cc
+pair_line rows columns ss pairs (p ∷ k ∷ a ∷ l ∷ b ∷ []) e =
+    let kinds = fault_if (not (is_kind k) || not (is_kind l)) PairKind in
+    let twice = fault_if (has pairs p) NameTwice in
+    let one = quantity_fault rows columns ss k a in
+    let two = quantity_fault rows columns ss l b in
+    let many = fault_if (leb 512 (length pairs)) TooMany in
+    let after = second_none twice (one or two or many) (second_none kinds (twice or one or two or many) e) in
+    let last = second_none one (two or many) after in
+    record {
+      right = record { first = first_none one (two or many) after; second = first_none two many last };
+      few = leb-false 512 (length pairs) (if_none (leb 512 (length pairs)) TooMany (second_none two many last));
+    }
+pair_line rows columns ss pairs (p ∷ k ∷ a ∷ l ∷ b ∷ c ∷ fs) e = absurd cc
+
+-- ---- the lines
+
+pub few_pairs : (rows columns bounds ls : List Line) → IsRightBy (pairs_fault rows columns bounds) [] ls → length ls ≤ 512
+few_pairs rows columns bounds ls h = by_lines (pairs_fault rows columns bounds) (λ ps. length ps ≤ 512) one [] ls (omega arith) h
+  where
+    one : (before : List Line) (l : Line) → length before ≤ 512 → pairs_fault rows columns bounds before l.fields ≡ None → length (before ++ l ∷ []) ≤ 512
+    one before l few e =
+        let line = pair_line (rows_of rows) (column_names columns) (settings_in bounds) (pair_names before) l.fields e in
+        omega (arith, line.few, length-append before (l ∷ []), length-map before (λ (x : Line). field 0 x.fields))
+
+abbrev pub IsPair : Deck → PairLine → Type 0
+IsPair d p = NamesQuantity d p.a × NamesQuantity d p.b
+
+pub pairs_are : (d : Deck) (rows columns bounds ls : List Line) (rights ranges : List Given) → IsMade d (rows_of rows) (column_names columns) (settings_in bounds) rights ranges → RowsKept (rows_of rows) → SettingsKept (settings_in bounds)
+    → IsRightBy (pairs_fault rows columns bounds) [] ls → AllByRecursion (IsPair d) (deck_pairs (rows_of rows) (column_names columns) ls)
+pairs_are d rows columns bounds ls rights ranges m h k right =
+    let rs = rows_of rows in
+    let cs = column_names columns in
+    let ss = settings_in bounds in
+    all_map (λ (l : Line). IsPairRight rs cs ss l.fields) (IsPair d) (λ (l : Line). pair_of rs cs l.fields)
+    (λ l q. (
+      quantity_named d rs cs ss rights ranges (is_col (field 1 l.fields)) (field 2 l.fields) m h k q.first,
+      quantity_named d rs cs ss rights ranges (is_col (field 3 l.fields)) (field 4 l.fields) m h k q.second,
+    ))
+    ls (each_line (pairs_fault rows columns bounds) (IsPairRight rs cs ss) (λ before fs e. (pair_line rs cs ss (pair_names before) fs e).right) [] ls right)
