@@ -101,6 +101,7 @@ pub within : (text : List ℕ) (d : Deck) (p : ℕ) → Spells text d p → p �
 within text d p w =
     let all : size_of (lines_of text) ≡ length text = size_lines 1 (pieces text) ∙ ap length (joined_pieces text) in
     omega (arith, w.place_is, size_front w.front w.last w.rest, ap size_of w.lines, all)
+
 -- the pieces of the first lines
 record Parts (n : ℕ) (ps : List (List ℕ)) (front : List Line) (last : Line) : Type 0 where
   pub first : List (List ℕ)
@@ -135,9 +136,6 @@ parts_of n (p ∷ ps) (l ∷ front) last rest e =
     }
 
 -- ---- a piece that another one follows ends by an LF
-
-one_byte : (t : Bool) (b : ℕ) → eqb b 10 ≡ t → t ≡ true → ends_with 10 (b ∷ []) ≡ true
-one_byte t b e h = e ∙ h
 
 with_byte : (b : ℕ) (xs : List ℕ) → ends_with 10 xs ≡ true → ends_with 10 (b ∷ xs) ≡ true
 with_byte b [] h = absurd cc

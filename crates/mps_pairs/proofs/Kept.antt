@@ -1,32 +1,33 @@
 -- What a text spells keeps the facts of a deck.
-use Rattle.std.proofs.Common.{ℕ, ◌<◌, ◌≡◌, ◌≢◌, true, false, List, [], Result, Ok, Err, length, map, Some, refl, sym, ap, subst, ◌∙◌, arith}
+use Rattle.std.proofs.Common.{ℕ, ◌<◌, ◌≡◌, ◌≢◌, true, false, List, Result, Ok, Err, length, map, refl, sym, ap, subst, ◌∙◌, arith}
 use Rattle.std.proofs.lemmas.Bool.{true≢false}
 use Rattle.std.proofs.lemmas.List.{length-map}
 use Rattle.std.proofs.lemmas.List.Elements.{All-from_recursion}
-use Rattle.std.specs.Prelude.{IfOk, IsTrue, slice_get}
+use Rattle.std.specs.Prelude.{IfOk}
 use Rattle.mps_lex.specs.Lines.{Line}
 use Rattle.mps_lex.specs.declared.line.Section.TheVariants.{Rows, Columns, Rhs, Ranges, Bounds, Pairs}
 use Rattle.mps_pairs.specs.declared.deck.Deck.{Deck}
 use Rattle.mps_pairs.specs.declared.deck.Entry.{Entry}
 use Rattle.mps_pairs.specs.declared.deck.Row as made
+use Rattle.mps_pairs.specs.declared.deck.Letter.{Letter}
 use Rattle.mps_pairs.specs.declared.deck.Letter.TheVariants.{N}
 use Rattle.mps_pairs.specs.declared.fault.DeckFault.{DeckFault}
 use Rattle.mps_pairs.specs.Decks.{IsDeck, IsDeckNumber, IsRow, IsColumn}
-use Rattle.mps_pairs.specs.Bounds.{Setting, settings_in, column_bounds}
+use Rattle.mps_pairs.specs.Bounds.{settings_in, column_bounds}
 use Rattle.mps_pairs.specs.Sections.{slice}
-use Rattle.mps_pairs.specs.Spelling.{is_n, RowLine, has_objective, rows_of, kept, column_names, entries_in, Given, givens_in, deck_row, deck_entries, pair_of, deck_of}
+use Rattle.mps_pairs.specs.Spelling.{is_n, has_objective, rows_of, kept, column_names, entries_in, givens_in, deck_row, deck_entries, pair_of, deck_of}
 use Rattle.mps_pairs.specs.Texts.{Spells}
 use Rattle.mps_pairs.proofs.KeptParts.{all_weaker, every_map, get_map, get_mapped}
 use Rattle.mps_pairs.proofs.KeptNames.{get_first}
 use Rattle.mps_pairs.proofs.KeptSlices.{LinesRight, lines_right, some_objective}
-use Rattle.mps_pairs.proofs.KeptRows.{RowsKept, rows_kept, names_objective, other_row, letter_n}
-use Rattle.mps_pairs.proofs.KeptGivens.{GivensKept, givens_kept, row_is}
-use Rattle.mps_pairs.proofs.KeptBounds.{SettingsKept, settings_kept, column_is}
-use Rattle.mps_pairs.proofs.KeptColumns.{ListsKept, columns_kept, IsEntry, entries_are, no_more_entries}
+use Rattle.mps_pairs.proofs.KeptRows.{rows_kept, names_objective, other_row, letter_n}
+use Rattle.mps_pairs.proofs.KeptGivens.{givens_kept, row_is}
+use Rattle.mps_pairs.proofs.KeptBounds.{settings_kept, column_is}
+use Rattle.mps_pairs.proofs.KeptColumns.{columns_kept, IsEntry, entries_are, no_more_entries}
 use Rattle.mps_pairs.proofs.KeptPairs.{IsPair, few_pairs, pairs_are}
 
-not_n : (rights ranges : List Given) (ks : List RowLine) (k : ℕ) (x : RowLine) (r : made.Row) → deck_row rights ranges x ≡ r → is_n x.letter ≡ false → r.letter ≢ N
-not_n rights ranges ks k x r same other e = true≢false (ap is_n (sym e) ∙ ap is_n (ap (λ (y : made.Row). y.letter) (sym same)) ∙ other)
+not_n : (x r : Letter) → x ≡ r → is_n x ≡ false → r ≢ N
+not_n x r same other e = true≢false (ap is_n (sym e) ∙ ap is_n (sym same) ∙ other)
 
 deck_is : (ls : List Line) (number : ℕ) → LinesRight ls → has_objective (rows_of (slice Rows ls)) ≡ true → IsDeck (deck_of ls number)
 deck_is ls number right some =
@@ -52,7 +53,7 @@ deck_is ls number right some =
       few_entries = omega (arith, no_more_entries rs cs es, columns.few_entries);
       few_pairs = omega (arith, length-map (slice Pairs ls) (λ (l : Line). pair_of rs cs l.fields), few_pairs (slice Rows ls) (slice Columns ls) (slice Bounds ls) (slice Pairs ls) right.pairs);
       objective = (deck_row rights ranges objective.0, get_map (deck_row rights ranges) ks _ objective.0 objective.1, letter_n objective.0.letter objective.2);
-      others = λ k r e n. let x = get_mapped (deck_row rights ranges) ks k r e in not_n rights ranges ks k x.0 r x.2 (other_row ks k x.0 rows.numbered.one x.1 n);
+      others = λ k r e n. let x = get_mapped (deck_row rights ranges) ks k r e in not_n x.0.letter r.letter (ap (λ (y : made.Row). y.letter) x.2) (other_row ks k x.0 rows.numbered.one x.1 n);
       rows = All-from_recursion IsRow (map (deck_row rights ranges) ks) (every_map IsRow (deck_row rights ranges) (row_is rights ranges given ranged) ks);
       columns = All-from_recursion IsColumn (map (column_bounds ss) cs) (every_map IsColumn (column_bounds ss) (column_is ss settings) cs);
       entries_named = All-from_recursion _ (deck_entries rs cs es) (all_weaker (IsEntry (length ks) (length cs)) (λ (e : Entry). (e.column < length (map (column_bounds ss) cs)) × (e.row < length (map (deck_row rights ranges) ks)))

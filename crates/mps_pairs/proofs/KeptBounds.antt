@@ -1,9 +1,9 @@
 -- Bounds are numbers of a deck, and a fixed column has one number as both.
-use Rattle.std.proofs.Common.{ℕ, ◌≡◌, Bool, true, false, ◌&&◌, cond, eqb, List, [], ◌∷◌, Option, Some, None, refl, sym, ap, subst, ◌∙◌, ◌*ℤ◌, pos, neg_ℤ, ◌^◌}
+use Rattle.std.proofs.Common.{ℕ, ◌≡◌, Bool, true, false, ◌&&◌, cond, eqb, List, [], ◌∷◌, Option, Some, None, refl, sym, ap, ◌∙◌}
 use Rattle.std.proofs.lemmas.Bool.{and_parts, true≢false}
 use Rattle.std.proofs.lemmas.List.Folds.{fold_along}
 use Rattle.std.proofs.lemmas.Option.{same_Some}
-use Rattle.std.specs.Prelude.{IfSome, int_le, fold}
+use Rattle.std.specs.Prelude.{IfSome, fold}
 use Rattle.std.specs.List.{AllByRecursion}
 use Rattle.std.specs.Str.{bytes_eq}
 use Rattle.lp_nums.specs.Fractions.{Fraction}
@@ -13,8 +13,7 @@ use Rattle.mps_pairs.specs.declared.bounds.BoundKind.{BoundKind}
 use Rattle.mps_pairs.specs.declared.bounds.BoundKind.TheVariants.{Up, Lo, Fx, Fr, Mi, Pl}
 use Rattle.mps_pairs.specs.declared.fault.DeckWhy.TheVariants.{UnknownName}
 use Rattle.mps_pairs.specs.Decks.{IsDeckNumber, IsColumn}
-use Rattle.mps_pairs.specs.Names.{has}
-use Rattle.mps_pairs.specs.Numbers.{value_of, upper_end, lower_end, text_fault}
+use Rattle.mps_pairs.specs.Numbers.{value_of}
 use Rattle.mps_pairs.specs.Bounds.{bound_kind, takes_value, BoundWords, bound_words, Setting, setting_with, setting_of_kind, setting_on, settings_in, sets_lower, sets_upper, is_fx, lower_by, upper_by, later, last_setting, lower_bound, upper_bound, are_fixed, column_bounds}
 use Rattle.mps_pairs.specs.Faults.{◌or◌, fault_if, set_fault, bound_value_fault, bound_words_fault, bound_kind_fault, bound_fault}
 use Rattle.mps_pairs.proofs.KeptParts.{second_none, all_flat}

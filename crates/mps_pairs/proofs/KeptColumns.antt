@@ -1,25 +1,24 @@
 -- The columns of a deck and their entries.
-use Rattle.std.proofs.Common.{ℕ, ◌+◌, ◌≤◌, ◌<◌, ◌≡◌, Bool, true, false, not, ◌&&◌, ◌||◌, cond, List, [], ◌∷◌, ◌++◌, length, map, Option, Some, None, refl, sym, ap, subst, ◌∙◌, leb, ltb, append_assoc, arith}
+use Rattle.std.proofs.Common.{ℕ, ◌+◌, ◌≤◌, ◌<◌, ◌≡◌, Bool, true, false, not, ◌&&◌, cond, List, [], ◌∷◌, ◌++◌, length, Option, Some, None, refl, sym, ap, subst, ◌∙◌, leb, ltb, append_assoc, arith}
 use Rattle.std.proofs.lemmas.Bool.{leb-false, ltb-false, or_parts}
-use Rattle.std.proofs.lemmas.List.{append-nil, length-append, length-map}
+use Rattle.std.proofs.lemmas.List.{append-nil, length-append}
 use Rattle.std.proofs.lemmas.List.Concat.{flat_map-append}
 use Rattle.std.proofs.lemmas.Option.{slice_get_within}
 use Rattle.std.specs.List.{AllByRecursion}
 use Rattle.mps_lex.specs.Kinds.{Name}
 use Rattle.mps_lex.specs.Lines.{Line}
 use Rattle.mps_pairs.specs.declared.deck.Entry.{Entry}
-use Rattle.mps_pairs.specs.declared.fault.DeckWhy.{DeckWhy}
 use Rattle.mps_pairs.specs.declared.fault.DeckWhy.TheVariants.{UnknownName, EntryTwice, ColumnSplit, TooMany}
 use Rattle.mps_pairs.specs.Decks.{IsDeckNumber}
 use Rattle.mps_pairs.specs.Names.{has, place, add_name}
 use Rattle.mps_pairs.specs.Numbers.{text_fault}
 use Rattle.mps_pairs.specs.Spelling.{field, RowLine, kept, row_names, row_named, NamedEntry, in_column, entries_on, entries_in, rows_of, rows_in, column_names, entry_at, entry_of, deck_entries}
-use Rattle.mps_pairs.specs.Faults.{◌or◌, fault_if, marker_fault, split_fault, entry_fault, full_fault, column_words_fault, column_fault}
+use Rattle.mps_pairs.specs.Faults.{◌or◌, fault_if, marker_fault, split_fault, entry_fault, full_fault, column_words_fault}
 use Rattle.mps_pairs.proofs.KeptParts.{first_none, second_none, if_none, unless_none, all_append, all_flat}
 use Rattle.mps_pairs.proofs.KeptNames.{place_has, has_added, columns_push}
 use Rattle.mps_pairs.proofs.KeptNumbers.{number_kept}
 use Rattle.mps_pairs.proofs.KeptRows.{RowsKept, PlacedAs, named_placed}
-use Rattle.mps_pairs.proofs.KeptEntries.{IsNamed, EntriesKept, IsLast, column_added, last_added, entry_added, rows_push}
+use Rattle.mps_pairs.proofs.KeptEntries.{IsNamed, EntriesKept, column_added, last_added, entry_added, rows_push}
 use Rattle.mps_pairs.proofs.KeptSlices.{IsRightBy, columns_fault, by_lines}
 
 -- ---- what right words say
@@ -128,8 +127,10 @@ columns_kept rows ls h right = by_lines (columns_fault rows) (λ cs. ListsKept r
   where
     rs : List RowLine
     rs = rows_of rows
+
     none : ListsKept rs [] []
     none = record { entries = record { named = tt; ascending = λ row. refl }; few_columns = omega arith; few_entries = omega arith }
+
     one : (before : List Line) (l : Line) → ListsKept rs (column_names before) (entries_in before) → columns_fault rows before l.fields ≡ None → ListsKept rs (column_names (before ++ l ∷ [])) (entries_in (before ++ l ∷ []))
     one before l k e =
         let words = second_none (marker_fault l.fields) (column_words_fault rs (column_names before) (entries_in before) l.fields) e in

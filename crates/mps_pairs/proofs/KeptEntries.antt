@@ -1,5 +1,5 @@
 -- Entries as columns and entries are added: the columns of a row's entries ascend.
-use Rattle.std.proofs.Common.{ℕ, ◌+◌, ◌≤◌, ◌<◌, ◌≡◌, Bool, true, false, ◌&&◌, ◌||◌, cond, eqb, List, [], ◌∷◌, ◌++◌, length, map, Option, Some, None, refl, sym, ap, subst, ◌∙◌, arith}
+use Rattle.std.proofs.Common.{ℕ, ◌+◌, ◌≤◌, ◌<◌, ◌≡◌, Bool, true, false, cond, eqb, List, [], ◌∷◌, ◌++◌, length, map, Option, Some, None, refl, sym, ap, subst, ◌∙◌, arith}
 use Rattle.std.proofs.lemmas.Bool.{and_parts, and_from, or_parts, lt-ltb, eqb-true, true≢false}
 use Rattle.std.proofs.lemmas.List.{append-nil, map-append}
 use Rattle.std.proofs.lemmas.List.Concat.{flat_map-append}
@@ -15,7 +15,7 @@ use Rattle.mps_pairs.specs.Names.{has, place, add_name}
 use Rattle.mps_pairs.specs.Numbers.{value_of, text_fault}
 use Rattle.mps_pairs.specs.Spelling.{RowLine, row_names, row_named, NamedEntry, rows_in, entry_at, entry_of, deck_entries}
 use Rattle.mps_pairs.proofs.KeptParts.{all_append, all_weaker}
-use Rattle.mps_pairs.proofs.KeptNames.{same_name, own_name, place_has, place_same, has_more, place_more, place_own, has_added}
+use Rattle.mps_pairs.proofs.KeptNames.{own_name, place_has, place_same, has_more, place_more, place_own}
 use Rattle.mps_pairs.proofs.KeptRows.{RowsKept, same_number}
 
 -- an entry of a row and a column that stand, with a number
@@ -93,6 +93,7 @@ below_one rows columns c r k e (Some j) h hc hr number n le fresh o = by (eqb j 
   where
     x : Entry
     x = record { column = place columns e.column; row = j; value = value_of e.value }
+
     by : (b : Bool) → eqb j k ≡ b → AllByRecursion (IsBelow (place columns c)) (cond b (x ∷ []) [])
     by true q =
         let same : e.row ≡ r = same_number rows e.row r k h n.row hr (o ∙ ap (λ (i : ℕ). Some i) (eqb-true j k q)) number in
@@ -120,6 +121,7 @@ still_ascends columns e xs row (Some k) h low = by (eqb k row) refl
   where
     x : Entry
     x = record { column = place columns e.column; row = k; value = value_of e.value }
+
     by : (b : Bool) → eqb k row ≡ b → ascends_by entry_column (entries_of xs row ++ cond b (x ∷ []) []) ≡ true
     by true q = ascends_push (entries_of xs row) x (h row) (subst (λ (r : ℕ). AllByRecursion (IsBelow (place columns e.column)) (entries_of xs r)) (eqb-true k row q) (low k refl))
     by false q = ap (ascends_by entry_column) (append-nil (entries_of xs row)) ∙ h row

@@ -6,11 +6,11 @@ use Rattle.std.specs.Str.{bytes_eq}
 use Rattle.lp_nums.specs.Fractions.{Fraction}
 use Rattle.mps_lex.specs.Kinds.{Name}
 use Rattle.mps_lex.specs.Lines.{Line}
-use Rattle.mps_pairs.specs.declared.fault.DeckWhy.TheVariants.{UnknownName, EntryTwice}
+use Rattle.mps_pairs.specs.declared.fault.DeckWhy.TheVariants.{EntryTwice}
 use Rattle.mps_pairs.specs.Decks.{IsDeckNumber, IsRow, zero}
 use Rattle.mps_pairs.specs.Names.{has}
 use Rattle.mps_pairs.specs.Numbers.{value_of, text_fault}
-use Rattle.mps_pairs.specs.Spelling.{is_n, RowLine, row_names, Given, givens_on, givens_in, given_value, deck_row}
+use Rattle.mps_pairs.specs.Spelling.{is_n, RowLine, Given, givens_on, givens_in, given_value, deck_row}
 use Rattle.mps_pairs.specs.Faults.{◌or◌, fault_if, entry_fault, set_fault, givens_fault}
 use Rattle.mps_pairs.proofs.KeptParts.{first_none, second_none, all_flat}
 use Rattle.mps_pairs.proofs.KeptNumbers.{number_kept, nought_kept}

@@ -1,8 +1,8 @@
 -- Names at their places, and names that are added.
-use Rattle.std.proofs.Common.{ℕ, suc, ◌+◌, ◌<◌, ◌≤◌, ◌≡◌, Bool, true, false, not, ◌||◌, cond, List, [], ◌∷◌, ◌++◌, length, map, Some, refl, sym, ap, subst, ◌∙◌, arith}
-use Rattle.std.proofs.lemmas.List.{length-append, map_push}
+use Rattle.std.proofs.Common.{ℕ, suc, ◌+◌, ◌<◌, ◌≡◌, Bool, true, false, not, ◌||◌, cond, List, [], ◌∷◌, ◌++◌, length, map, Some, refl, sym, ap, ◌∙◌, arith}
+use Rattle.std.proofs.lemmas.List.{map_push}
 use Rattle.std.proofs.lemmas.List.Folds.{list_any-append}
-use Rattle.std.proofs.lemmas.List.Sums.{prefix_len-le-length, fold_push}
+use Rattle.std.proofs.lemmas.List.Sums.{fold_push}
 use Rattle.std.proofs.lemmas.Option.{same_Some, slice_get_within}
 use Rattle.std.proofs.lemmas.Slice.Eq.{bytes_eq-Decides}
 use Rattle.std.specs.Prelude.{slice_get, fold}
@@ -44,17 +44,7 @@ place_has ns n h = slice_get_within ns (place ns n) n (get_place ns n h)
 pub place_same : (ns : List Name) (m n : Name) → has ns m ≡ true → has ns n ≡ true → place ns m ≡ place ns n → m ≡ n
 place_same ns m n hm hn e = same_Some m n (sym (get_place ns m hm) ∙ ap (slice_get ns) e ∙ get_place ns n hn)
 
-pub place_within : (ns : List Name) (n : Name) → place ns n ≤ length ns
-place_within ns n = prefix_len-le-length (λ x. not (bytes_eq n x)) ns
-
 -- ---- a name that is added
-
-pub more_names : (ns : List Name) (n : Name) → length ns ≤ length (add_name ns n)
-more_names ns n = by (has ns n)
-  where
-    by : (b : Bool) → length ns ≤ length (cond b ns (ns ++ n ∷ []))
-    by true = omega arith
-    by false = omega (arith, length-append ns (n ∷ []))
 
 -- a name that stands keeps standing, at its place
 pub has_more : (ns : List Name) (c n : Name) → has ns n ≡ true → has (add_name ns c) n ≡ true

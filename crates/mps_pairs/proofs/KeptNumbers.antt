@@ -1,11 +1,10 @@
 -- A decimal text without a fault spells a number of a deck.
-use Rattle.std.proofs.Common.{ℕ, zero, suc, ◌+◌, ◌-◌, ◌*◌, ◌^◌, ◌%◌, ◌<◌, ◌≤◌, ◌≡◌, inl, inr, refl, sym, ap, subst, ◌∙◌, arith, Bool, true, false, ◌||◌, cond, eqb, List, [], ◌∷◌, ◌++◌, Option, Some, None, ℤ, pos, negsuc, neg_ℤ, ◌+ℤ◌, ◌*ℤ◌, ◌≤ℤ◌}
-use Prim.Native.Nat.{◌∣◌}
-use Rattle.std.specs.Prelude.{filter, unsigned_abs, nat_lt, int_lt, int_div, option_map}
+use Rattle.std.proofs.Common.{ℕ, zero, suc, ◌+◌, ◌-◌, ◌*◌, ◌^◌, ◌%◌, ◌<◌, ◌≤◌, ◌≡◌, inl, inr, refl, sym, ap, subst, ◌∙◌, arith, Bool, true, false, ◌||◌, cond, eqb, List, [], ◌∷◌, ◌++◌, Some, None, ℤ, pos, negsuc, neg_ℤ, ◌+ℤ◌, ◌*ℤ◌, ◌≤ℤ◌}
+use Rattle.std.specs.Prelude.{unsigned_abs, nat_lt, int_lt, int_div, option_map}
 use Rattle.std.specs.Int.{IsGcd}
 use Rattle.std.specs.List.{list_all}
 use Rattle.std.specs.Char.{is_ascii_digit, digit_value}
-use Rattle.std.specs.Str.Parse.{digits_value, starts_with_minus}
+use Rattle.std.specs.Str.Parse.{starts_with_minus}
 use Rattle.std.proofs.lemmas.Bool.{and_parts, and_cases, eqb-true, eqb-false, leb-true, lt-ltb, le-ltb, ltb-false, cases_eq}
 use Rattle.std.proofs.lemmas.Int.{ints, unsigned_abs-mul}
 use Rattle.std.proofs.lemmas.List.{append_assoc, append-nil}
@@ -15,7 +14,6 @@ use Rattle.std.proofs.lemmas.Nat.Gcd.{IsGcd-from_zero, IsGcd-from_mod}
 use Rattle.std.proofs.Math.Nat.{mul-le-mul_left, pos_of_dvd_of_pos}
 use Rattle.lp_nums.specs.Fractions.{Fraction, IsReduced, SameValue}
 use Rattle.lp_nums.specs.Decimals.{mantissa, digits, width, power, signed, times_power_of_ten, spelled, is_decimal, is_wide}
-use Rattle.lp_nums.specs.NumberFaults.{number_fault}
 use Rattle.lp_nums.specs.declared.decimals.NumberFault.TheVariants.{NumberText, NumberWide}
 use Rattle.lp_nums.specs.declared.scan.Significand.{Significand}
 use Rattle.lp_nums.specs.Significands.{IsSignificand}
@@ -95,8 +93,10 @@ one_more ds c s digit h =
         | inl none ↦ (s, first_zero ds s none h)
         | inr some ↦ (record { value = s.value; width = s.width; zeros = s.zeros + 1 }, more_zeros ds s some h)
       ])
-      | inr other ↦ (record { value = s.value * 10 ^ (s.zeros + 1) + digit_value c; width = s.width + s.zeros + 1; zeros = 0 },
-          next_digit ds s (s.value * 10 ^ (s.zeros + 1) + digit_value c) c other (λ l. refl) (digit_small c digit) h)
+      | inr other ↦ (
+        record { value = s.value * 10 ^ (s.zeros + 1) + digit_value c; width = s.width + s.zeros + 1; zeros = 0 },
+        next_digit ds s (s.value * 10 ^ (s.zeros + 1) + digit_value c) c other (λ l. refl) (digit_small c digit) h,
+      )
     ]
 
 all_more : (ds more : List ℕ) → list_all is_ascii_digit more ≡ true → Some_significand ds → Some_significand (ds ++ more)
@@ -161,8 +161,10 @@ near text narrow =
     let w = width (digits text) in
     elim (and_cases (nat_lt 0 w) (nat_lt 18 w || int_lt (power text) (neg_ℤ (pos 18)) || int_lt (pos 36) (pos w +ℤ power text)) narrow) [
       | inl none ↦ (nought, near_nothing text s found.1 (omega (arith, found.1.width_is, ltb-false 0 w none)))
-      | inr within ↦ (times_power_of_ten (signed (starts_with_minus text) s.value) (power text),
-          near_some text s found.1 (subst (λ (n : ℕ). (nat_lt 18 n || int_lt (power text) (neg_ℤ (pos 18)) || int_lt (pos 36) (pos n +ℤ power text)) ≡ false) (sym found.1.width_is) within))
+      | inr within ↦ (
+        times_power_of_ten (signed (starts_with_minus text) s.value) (power text),
+        near_some text s found.1 (subst (λ (n : ℕ). (nat_lt 18 n || int_lt (power text) (neg_ℤ (pos 18)) || int_lt (pos 36) (pos n +ℤ power text)) ≡ false) (sym found.1.width_is) within),
+      )
     ]
 
 -- ---- numbers of decks

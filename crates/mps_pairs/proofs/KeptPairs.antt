@@ -1,5 +1,5 @@
 -- Pairs speak of quantities of the deck, and there are not too many.
-use Rattle.std.proofs.Common.{ℕ, ◌+◌, ◌≤◌, ◌<◌, ◌≡◌, ℤ, pos, ◌≤ℤ◌, Bool, true, false, not, ◌&&◌, ◌||◌, cond, List, [], ◌∷◌, ◌++◌, length, map, Option, Some, None, refl, sym, ap, subst, ◌∙◌, leb, arith}
+use Rattle.std.proofs.Common.{ℕ, ◌≤◌, ◌<◌, ◌≡◌, ℤ, pos, ◌≤ℤ◌, Bool, true, false, not, ◌||◌, cond, List, [], ◌∷◌, ◌++◌, length, map, Option, Some, None, sym, ap, subst, ◌∙◌, leb, arith}
 use Prim.Native.Nat.{◌∣◌}
 use Rattle.std.proofs.lemmas.Bool.{leb-false, and_parts, not-true}
 use Rattle.std.proofs.lemmas.Bool.Decides.{Decides-int_eq}
@@ -23,7 +23,7 @@ use Rattle.mps_pairs.specs.Decks.{IsDeckNumber, NamesQuantity, is_inequality, ze
 use Rattle.mps_pairs.specs.Names.{has, place}
 use Rattle.mps_pairs.specs.Numbers.{is_zero}
 use Rattle.mps_pairs.specs.Bounds.{Setting, settings_in, column_bounds}
-use Rattle.mps_pairs.specs.Spelling.{field, is_n, RowLine, kept, rows_of, row_names, row_named, column_names, Given, deck_row, pair_names, is_col, quantity_of, pair_of, deck_pairs}
+use Rattle.mps_pairs.specs.Spelling.{field, is_n, RowLine, kept, rows_of, row_names, row_named, column_names, Given, deck_row, pair_names, is_col, pair_of, deck_pairs}
 use Rattle.mps_pairs.specs.Faults.{◌or◌, fault_if, is_kind, is_free_from_zero, column_quantity_fault, row_quantity_fault, quantity_fault, pair_fault}
 use Rattle.mps_pairs.proofs.KeptParts.{first_none, second_none, if_none, unless_none, get_map, all_map}
 use Rattle.mps_pairs.proofs.KeptNames.{get_place}

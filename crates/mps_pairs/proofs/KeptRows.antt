@@ -1,5 +1,5 @@
 -- The rows of a deck: one objective, each row at its number, and not too many.
-use Rattle.std.proofs.Common.{ℕ, zero, suc, ◌+◌, ◌≤◌, ◌<◌, ◌≡◌, ◌≢◌, Bool, true, false, not, ◌&&◌, ◌||◌, cond, List, [], ◌∷◌, ◌++◌, length, map, Option, Some, None, refl, sym, ap, subst, ◌∙◌, leb, arith}
+use Rattle.std.proofs.Common.{ℕ, zero, suc, ◌+◌, ◌≤◌, ◌≡◌, Bool, true, false, not, ◌&&◌, ◌||◌, cond, List, [], ◌∷◌, ◌++◌, length, Option, Some, None, refl, sym, ap, subst, ◌∙◌, leb, arith}
 use Rattle.std.proofs.lemmas.Bool.{leb-false, or_parts, true≢false}
 use Rattle.std.proofs.lemmas.List.{append-nil, length-append}
 use Rattle.std.proofs.lemmas.List.Elements.{filter-append}
@@ -147,11 +147,13 @@ kept_one rs r number new h =
     at_letter : (b : Bool) → is_n r.letter ≡ b → HasOne (kept rs ++ r ∷ [])
     at_letter true e = first_one (kept rs) r (h.others (new e))
     at_letter false e = one_more (kept rs) r e h.one
+
     some : (a b c : Bool) → (a ≡ true → c ≡ true) → (a || (b || false)) ≡ true → (c || (b || false)) ≡ true
     some true b c f e = ap (λ (x : Bool). x || (b || false)) (f refl)
     some false true true f e = refl
     some false true false f e = refl
     some false false c f e = absurd cc
+
     count : (b : Bool) → is_n r.letter ≡ b → (o n p m : ℕ) → m ≡ n + 1 → p ≡ o + cond (not (is_n r.letter)) 1 0 → n ≤ o + 1 → (is_n r.letter ≡ true → n ≤ o) → m ≤ p + 1
     count true e o n p m em ep few less = omega (arith, em, ep, less e)
     count false e o n p m em ep few less = omega (arith, em, ep, few, ap counted e)

@@ -1,7 +1,7 @@
 -- Clean lines leave clean slices: each line of a section is right behind those of its slice, below the slices of the
 -- earlier sections, which are whole by then.
-use Rattle.std.proofs.Common.{ℕ, ◌+◌, ◌≤◌, ◌<◌, ◌≡◌, Bool, true, false, not, ◌&&◌, cond, List, [], ◌∷◌, ◌++◌, Option, Some, None, refl, sym, ap, subst, ◌∙◌, append_assoc, leb, arith}
-use Rattle.std.proofs.lemmas.Bool.{and_parts, and_cases, leb-true, eqb-true, not-false, true≢false}
+use Rattle.std.proofs.Common.{ℕ, ◌≤◌, ◌<◌, ◌≡◌, Bool, true, false, not, ◌&&◌, cond, List, [], ◌∷◌, ◌++◌, Option, Some, None, refl, sym, ap, subst, ◌∙◌, append_assoc, leb, arith}
+use Rattle.std.proofs.lemmas.Bool.{and_parts, leb-true, eqb-true, not-false, true≢false}
 use Rattle.std.proofs.lemmas.List.{append-nil}
 use Rattle.std.specs.List.{AllByRecursion}
 use Rattle.mps_lex.specs.Kinds.{Name as Word}
@@ -15,7 +15,7 @@ use Rattle.mps_pairs.specs.declared.fault.DeckWhy.TheVariants.{NoObjective, Sect
 use Rattle.mps_pairs.specs.Bounds.{bound_set, settings_in}
 use Rattle.mps_pairs.specs.Sections.{Open, is_open, is_entry, behind, open_from, open_behind, data_line, slice_from, slice, is_begun, rank, open_rank, may_follow}
 use Rattle.mps_pairs.specs.Spelling.{rows_of, has_objective, entries_in, column_names, given_set, given_rows, givens_in, first_set, pair_names}
-use Rattle.mps_pairs.specs.Faults.{fault_if, fault_of, kind_fault, data_fault, end_fault, ended_fault, order_fault, found_at, named_at, row_fault, column_fault, givens_fault, bound_fault, pair_fault}
+use Rattle.mps_pairs.specs.Faults.{fault_of, kind_fault, data_fault, ended_fault, order_fault, found_at, named_at, row_fault, column_fault, givens_fault, bound_fault, pair_fault}
 use Rattle.mps_pairs.specs.Texts.{IsClean, ends_deck}
 use Rattle.mps_pairs.proofs.KeptParts.{first_none, second_none, if_none, unless_none, map_none}
 
