@@ -120,7 +120,9 @@ impl<'a> ColumnTable<'a> {
     fn full_fault(&self, index: usize, column: &'a [u8], more: u32) -> Option<DeckWhy>
         requires few { more ≤ 2 }
         requires index { index ≡ place self.now.names column.now }
-        ensures { result ≡ full_fault self.now.names self.now.count column.now more }
+        ensures fault { result ≡ full_fault self.now.names self.now.count column.now more }
+        ensures names { result ≡ None → length (add_name self.now.names column.now) ≤ 1000 }
+        ensures count { result ≡ None → self.now.count + more ≤ 200000 }
     {
         if (self.names.is_behind(index, column) && self.names.len() >= 1000)
             || self.count + more > 200_000
@@ -175,7 +177,8 @@ impl<'a> ColumnTable<'a> {
         ensures number { IfOk result (λ x. x.number ≡ number_of_row (row_named rows.now row.now)) }
         ensures value { IfOk result (λ x. x.value ≡ value_of value.now) }
         ensures ok { OnOk result (self.new ≡ record self.old { here = self.old.here ++ row.now ∷ [] }) }
-        ensures room { OnOk result (full_fault self.old.names self.old.count column.now 1 ≡ None) }
+        ensures few { OnOk result (length (add_name self.old.names column.now) ≤ 1000) }
+        ensures room { OnOk result (self.old.count + 1 ≤ 200000) }
     {
         match self.take_here(rows, row, value) {
             Err(fault) => Err(fault),
@@ -191,7 +194,8 @@ impl<'a> ColumnTable<'a> {
     // Adds the column, if it is new, and its entry.
     fn add_one(&mut self, index: usize, column: &'a [u8], found: RowValue) -> Result<(), Fault>
         requires index { index ≡ place self.old.names column.now }
-        requires room { full_fault self.old.names self.old.count column.now 1 ≡ None }
+        requires few { length (add_name self.old.names column.now) ≤ 1000 }
+        requires room { self.old.count + 1 ≤ 200000 }
         ensures fault { Judges result None }
         ensures ok { OnOk result (self.new ≡ record self.old { names = add_name self.old.names column.now; count = self.old.count + 1; entries = self.old.entries ++ entry_at index found.value found.number }) }
     {
@@ -256,7 +260,8 @@ impl<'a> ColumnTable<'a> {
         second: RowValue,
     ) -> Result<(), Fault>
         requires index { index ≡ place self.old.names column.now }
-        requires room { full_fault self.old.names self.old.count column.now 2 ≡ None }
+        requires few { length (add_name self.old.names column.now) ≤ 1000 }
+        requires room { self.old.count + 2 ≤ 200000 }
         ensures fault { Judges result None }
         ensures ok { OnOk result (self.new ≡ record self.old { names = add_name self.old.names column.now; count = (self.old.count + 1) + 1; entries = (self.old.entries ++ entry_at index first.value first.number) ++ entry_at index second.value second.number }) }
     {

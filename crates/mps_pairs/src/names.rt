@@ -54,7 +54,7 @@ impl<'a> Names<'a> {
         requires { index ≡ place self.now name.now }
         ensures { result ≡ not (has self.now name.now) }
     {
-        index == self.held.len()
+        index == self.len()
     }
 
     pub fn has(&self, name: &'a [u8]) -> bool
