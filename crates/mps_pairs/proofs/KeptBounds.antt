@@ -14,7 +14,7 @@ use Rattle.mps_pairs.specs.declared.bounds.BoundKind.TheVariants.{Up, Lo, Fx, Fr
 use Rattle.mps_pairs.specs.declared.fault.DeckWhy.TheVariants.{UnknownName}
 use Rattle.mps_pairs.specs.Decks.{IsDeckNumber, IsColumn}
 use Rattle.mps_pairs.specs.Numbers.{value_of}
-use Rattle.mps_pairs.specs.Bounds.{bound_kind, takes_value, BoundWords, bound_words, Setting, setting_with, setting_of_kind, setting_on, settings_in, sets_lower, sets_upper, is_fx, lower_by, upper_by, later, last_setting, lower_bound, upper_bound, are_fixed, column_bounds}
+use Rattle.mps_pairs.specs.Bounds.{bound_kind, takes_value, BoundWords, bound_words, bound_value, Setting, setting_with, setting_of_kind, setting_on, settings_in, sets_lower, sets_upper, is_fx, lower_by, upper_by, later, last_setting, lower_bound, upper_bound, are_fixed, column_bounds}
 use Rattle.mps_pairs.specs.Faults.{◌or◌, fault_if, set_fault, bound_value_fault, bound_words_fault, bound_kind_fault, bound_fault}
 use Rattle.mps_pairs.proofs.KeptParts.{second_none, all_flat}
 use Rattle.mps_pairs.proofs.KeptNumbers.{number_kept, nought_kept}
@@ -30,7 +30,7 @@ unless_far : (far : Bool) (f : Fraction) → IsDeckNumber f → IfSome (cond far
 unless_far true f h = tt
 unless_far false f h = h
 
-gives : (kind : BoundKind) (v : Name) → bound_value_fault (takes_value kind) v ≡ None → GivesNumbers kind (value_of v)
+gives : (kind : BoundKind) (v : Name) → bound_value_fault (takes_value kind) v ≡ None → GivesNumbers kind (bound_value (takes_value kind) v)
 gives Up v e = record { lower = tt; upper = unless_far _ (value_of v) (number_kept v e) }
 gives Lo v e = record { lower = unless_far _ (value_of v) (number_kept v e); upper = tt }
 gives Fx v e = record { lower = number_kept v e; upper = number_kept v e }

@@ -4,39 +4,39 @@ use Rattle.std.proofs.lemmas.Bool.{leb-false, ltb-false, or_parts}
 use Rattle.std.proofs.lemmas.List.{append-nil, length-append}
 use Rattle.std.proofs.lemmas.List.Concat.{flat_map-append}
 use Rattle.std.proofs.lemmas.Option.{slice_get_within}
+use Rattle.std.specs.Prelude.{is_none}
 use Rattle.std.specs.List.{AllByRecursion}
+use Rattle.lp_nums.specs.Fractions.{Fraction}
 use Rattle.mps_lex.specs.Kinds.{Name}
 use Rattle.mps_lex.specs.Lines.{Line}
 use Rattle.mps_pairs.specs.declared.deck.Entry.{Entry}
 use Rattle.mps_pairs.specs.declared.fault.DeckWhy.TheVariants.{UnknownName, EntryTwice, ColumnSplit, TooMany}
 use Rattle.mps_pairs.specs.Decks.{IsDeckNumber}
 use Rattle.mps_pairs.specs.Names.{has, place, add_name}
-use Rattle.mps_pairs.specs.Numbers.{text_fault}
-use Rattle.mps_pairs.specs.Spelling.{field, RowLine, kept, row_names, row_named, NamedEntry, in_column, entries_on, entries_in, rows_of, rows_in, column_names, entry_at, entry_of, deck_entries}
+use Rattle.mps_pairs.specs.Numbers.{value_of, text_fault}
+use Rattle.mps_pairs.specs.Spelling.{field, RowLine, kept, row_named, number_of_row, given, NamedEntry, in_column, entries_on, entries_in, rows_of, rows_in, column_names, entry_at, entry_of, deck_entries}
 use Rattle.mps_pairs.specs.Faults.{◌or◌, fault_if, marker_fault, split_fault, entry_fault, full_fault, column_words_fault}
-use Rattle.mps_pairs.proofs.KeptParts.{first_none, second_none, if_none, unless_none, all_append, all_flat}
+use Rattle.mps_pairs.proofs.KeptParts.{first_none, second_none, if_none, all_append, all_flat}
 use Rattle.mps_pairs.proofs.KeptNames.{place_has, has_added, columns_push}
 use Rattle.mps_pairs.proofs.KeptNumbers.{number_kept}
-use Rattle.mps_pairs.proofs.KeptRows.{RowsKept, PlacedAs, named_placed}
+use Rattle.mps_pairs.proofs.KeptRows.{RowsKept, is_at}
+use Rattle.mps_pairs.proofs.KeptGivens.{entry_text}
 use Rattle.mps_pairs.proofs.KeptEntries.{IsNamed, EntriesKept, column_added, last_added, entry_added, rows_push}
 use Rattle.mps_pairs.proofs.KeptSlices.{IsRightBy, columns_fault, by_lines}
 
 -- ---- what right words say
 
-record IsEntryRight (rows : List RowLine) (given : List Name) (r v : Name) : Type 0 where
-  pub row : has (row_names rows) r ≡ true
-  pub fresh : has given r ≡ false
-  pub value : text_fault v ≡ None
+record IsEntryRight (standing : List Name) (r v : Name) : Type 0 where
+  pub fresh : has standing r ≡ false
+  pub value : IsDeckNumber (value_of v)
 
-entry_right : (rows : List RowLine) (given : List Name) (r v : Name) → entry_fault rows given r v ≡ None → IsEntryRight rows given r v
-entry_right rows given r v e =
-    let unknown = fault_if (not (has (row_names rows) r)) UnknownName in
-    let twice = fault_if (has given r) EntryTwice in
-    let after = second_none unknown (twice or text_fault v) e in
+entry_right : (rows : List RowLine) (standing : List Name) (r v : Name) → entry_fault rows (has standing r) r v ≡ None → IsEntryRight standing r v
+entry_right rows standing r v e =
+    let unknown = fault_if (is_none (row_named rows r)) UnknownName in
+    let twice = fault_if (has standing r) EntryTwice in
     record {
-      row = unless_none (has (row_names rows) r) UnknownName (first_none unknown (twice or text_fault v) e);
-      fresh = if_none (has given r) EntryTwice (first_none twice (text_fault v) after);
-      value = second_none twice (text_fault v) after;
+      fresh = if_none (has standing r) EntryTwice (first_none twice (text_fault v) (second_none unknown (twice or text_fault v) e));
+      value = number_kept v (entry_text rows (has standing r) r v e);
     }
 
 not_split : (columns : List Name) (c : Name) → split_fault columns c ≡ None → length columns ≤ place columns c + 1
@@ -58,56 +58,56 @@ pub record ListsKept (rows : List RowLine) (columns : List Name) (es : List Name
   pub few_columns : length columns ≤ 1000
   pub few_entries : length es ≤ 200000
 
-named_by : (rows : List RowLine) (columns given : List Name) (c r v : Name) → IsEntryRight rows given r v → IsNamed rows (add_name columns c) (in_column c (r, v))
-named_by rows columns given c r v h = record { row = h.row; column = has_added columns c; value = h.value }
+named_by : (columns standing : List Name) (c r v : Name) → IsEntryRight standing r v → IsNamed (add_name columns c) (in_column c (given r v))
+named_by columns standing c r v h = record { column = has_added columns c; value = h.value }
 
-one_entry : (rows : List RowLine) (columns : List Name) (es : List NamedEntry) (c r v : Name) → RowsKept rows → ListsKept rows columns es → length columns ≤ place columns c + 1 → IsEntryRight rows (rows_in c es) r v
-    → EntriesKept rows (add_name columns c) (es ++ in_column c (r, v) ∷ [])
+one_entry : (rows : List RowLine) (columns : List Name) (es : List NamedEntry) (c r v : Name) → RowsKept rows → ListsKept rows columns es → length columns ≤ place columns c + 1 → IsEntryRight (rows_in c es) r v
+    → EntriesKept rows (add_name columns c) (es ++ in_column c (given r v) ∷ [])
 one_entry rows columns es c r v h k whole e =
-    entry_added rows (add_name columns c) es (in_column c (r, v)) h (column_added rows columns c es k.entries) (named_by rows columns (rows_in c es) c r v e) (last_added rows columns c es whole k.entries.named) e.fresh
+    entry_added rows (add_name columns c) es (in_column c (given r v)) h (column_added rows columns c es k.entries) (named_by columns (rows_in c es) c r v e) (last_added columns c es whole k.entries.named) e.fresh
 
-one_kept : (rows : List RowLine) (columns : List Name) (es : List NamedEntry) (c r v : Name) → RowsKept rows → ListsKept rows columns es → column_words_fault rows columns es (c ∷ r ∷ v ∷ []) ≡ None
-    → ListsKept rows (add_name columns c) (es ++ in_column c (r, v) ∷ [])
+one_kept : (rows : List RowLine) (columns : List Name) (es : List NamedEntry) (c r v : Name) → RowsKept rows → ListsKept rows columns es → column_words_fault rows columns (rows_in c es) (length es) (c ∷ r ∷ v ∷ []) ≡ None
+    → ListsKept rows (add_name columns c) (es ++ in_column c (given r v) ∷ [])
 one_kept rows columns es c r v h k e =
     let split = split_fault columns c in
-    let one = entry_fault rows (rows_in c es) r v in
+    let one = entry_fault rows (has (rows_in c es) r) r v in
     let full = full_fault columns (length es) c 1 in
     let after = second_none split (one or full) e in
     let room = not_full columns (length es) c 1 k.few_columns (second_none one full after) in
     record {
       entries = one_entry rows columns es c r v h k (not_split columns c (first_none split (one or full) e)) (entry_right rows (rows_in c es) r v (first_none one full after));
       few_columns = room.0;
-      few_entries = omega (arith, room.1, length-append es (in_column c (r, v) ∷ []));
+      few_entries = omega (arith, room.1, length-append es (in_column c (given r v) ∷ []));
     }
 
-two_entries : (rows : List RowLine) (columns : List Name) (es : List NamedEntry) (c r v s w : Name) → RowsKept rows → ListsKept rows columns es → length columns ≤ place columns c + 1 → IsEntryRight rows (rows_in c es) r v
-    → IsEntryRight rows (rows_in c es ++ r ∷ []) s w → EntriesKept rows (add_name columns c) ((es ++ in_column c (r, v) ∷ []) ++ in_column c (s, w) ∷ [])
+two_entries : (rows : List RowLine) (columns : List Name) (es : List NamedEntry) (c r v s w : Name) → RowsKept rows → ListsKept rows columns es → length columns ≤ place columns c + 1 → IsEntryRight (rows_in c es) r v
+    → IsEntryRight (rows_in c es ++ r ∷ []) s w → EntriesKept rows (add_name columns c) ((es ++ in_column c (given r v) ∷ []) ++ in_column c (given s w) ∷ [])
 two_entries rows columns es c r v s w h k whole e f =
-    let first = in_column c (r, v) in
+    let first = in_column c (given r v) in
     let new = add_name columns c in
-    let last = all_append (λ x. place new x.column ≤ place new c) es (first ∷ []) (last_added rows columns c es whole k.entries.named) (omega arith, tt) in
-    entry_added rows new (es ++ first ∷ []) (in_column c (s, w)) h (one_entry rows columns es c r v h k whole e) (named_by rows columns (rows_in c es ++ r ∷ []) c s w f) last
+    let last = all_append (λ x. place new x.column ≤ place new c) es (first ∷ []) (last_added columns c es whole k.entries.named) (omega arith, tt) in
+    entry_added rows new (es ++ first ∷ []) (in_column c (given s w)) h (one_entry rows columns es c r v h k whole e) (named_by columns (rows_in c es ++ r ∷ []) c s w f) last
     (ap (λ (x : List Name). has x s) (rows_push c es first refl) ∙ f.fresh)
 
-two_kept : (rows : List RowLine) (columns : List Name) (es : List NamedEntry) (c r v s w : Name) → RowsKept rows → ListsKept rows columns es → column_words_fault rows columns es (c ∷ r ∷ v ∷ s ∷ w ∷ []) ≡ None
-    → ListsKept rows (add_name columns c) (es ++ in_column c (r, v) ∷ in_column c (s, w) ∷ [])
+two_kept : (rows : List RowLine) (columns : List Name) (es : List NamedEntry) (c r v s w : Name) → RowsKept rows → ListsKept rows columns es → column_words_fault rows columns (rows_in c es) (length es) (c ∷ r ∷ v ∷ s ∷ w ∷ []) ≡ None
+    → ListsKept rows (add_name columns c) (es ++ in_column c (given r v) ∷ in_column c (given s w) ∷ [])
 two_kept rows columns es c r v s w h k e =
     let split = split_fault columns c in
-    let one = entry_fault rows (rows_in c es) r v in
-    let two = entry_fault rows (rows_in c es ++ r ∷ []) s w in
+    let one = entry_fault rows (has (rows_in c es) r) r v in
+    let two = entry_fault rows (has (rows_in c es ++ r ∷ []) s) s w in
     let full = full_fault columns (length es) c 2 in
-    let after = second_none split (one or two or full) e in
-    let last = second_none one (two or full) after in
-    let room = not_full columns (length es) c 2 k.few_columns (second_none two full last) in
-    let both = two_entries rows columns es c r v s w h k (not_split columns c (first_none split (one or two or full) e)) (entry_right rows (rows_in c es) r v (first_none one (two or full) after))
-    (entry_right rows (rows_in c es ++ r ∷ []) s w (first_none two full last)) in
+    let after = second_none split ((one or two) or full) e in
+    let both = first_none (one or two) full after in
+    let room = not_full columns (length es) c 2 k.few_columns (second_none (one or two) full after) in
+    let entries = two_entries rows columns es c r v s w h k (not_split columns c (first_none split ((one or two) or full) e)) (entry_right rows (rows_in c es) r v (first_none one two both))
+    (entry_right rows (rows_in c es ++ r ∷ []) s w (second_none one two both)) in
     record {
-      entries = subst (EntriesKept rows (add_name columns c)) (append_assoc es (in_column c (r, v) ∷ []) (in_column c (s, w) ∷ [])) both;
+      entries = subst (EntriesKept rows (add_name columns c)) (append_assoc es (in_column c (given r v) ∷ []) (in_column c (given s w) ∷ [])) entries;
       few_columns = room.0;
-      few_entries = omega (arith, room.1, length-append es (in_column c (r, v) ∷ in_column c (s, w) ∷ []));
+      few_entries = omega (arith, room.1, length-append es (in_column c (given r v) ∷ in_column c (given s w) ∷ []));
     }
 
-words_kept : (rows : List RowLine) (columns : List Name) (es : List NamedEntry) (fs : List Name) → RowsKept rows → ListsKept rows columns es → column_words_fault rows columns es fs ≡ None
+words_kept : (rows : List RowLine) (columns : List Name) (es : List NamedEntry) (fs : List Name) → RowsKept rows → ListsKept rows columns es → column_words_fault rows columns (rows_in (field 0 fs) es) (length es) fs ≡ None
     → ListsKept rows (add_name columns (field 0 fs)) (es ++ entries_on fs)
 words_kept rows columns es [] h k e = absurd cc
 words_kept rows columns es (c ∷ []) h k e = absurd cc
@@ -133,7 +133,7 @@ columns_kept rows ls h right = by_lines (columns_fault rows) (λ cs. ListsKept r
 
     one : (before : List Line) (l : Line) → ListsKept rs (column_names before) (entries_in before) → columns_fault rows before l.fields ≡ None → ListsKept rs (column_names (before ++ l ∷ [])) (entries_in (before ++ l ∷ []))
     one before l k e =
-        let words = second_none (marker_fault l.fields) (column_words_fault rs (column_names before) (entries_in before) l.fields) e in
+        let words = second_none (marker_fault l.fields) (column_words_fault rs (column_names before) (rows_in (field 0 l.fields) (entries_in before)) (length (entries_in before)) l.fields) e in
         subst (λ (x : List Name). ListsKept rs x (entries_in (before ++ l ∷ []))) (sym (columns_push before l))
         (subst (λ (x : List NamedEntry). ListsKept rs (add_name (column_names before) (field 0 l.fields)) x) (sym (entries_more before l)) (words_kept rs (column_names before) (entries_in before) l.fields h k words))
 
@@ -144,18 +144,20 @@ pub record IsEntry (rows columns : ℕ) (e : Entry) : Type 0 where
   pub row : e.row < rows
   pub value : IsDeckNumber e.value
 
-entry_is : (rows : List RowLine) (columns : List Name) (e : NamedEntry) (o : Option ℕ) → IsNamed rows columns e → PlacedAs (kept rows) (row_named rows e.row) o → AllByRecursion (IsEntry (length (kept rows)) (length columns)) (entry_at columns e o)
-entry_is rows columns e None n p = tt
-entry_is rows columns e (Some k) n p = (record { column = place_has columns e.column n.column; row = slice_get_within (kept rows) k (row_named rows e.row) p; value = number_kept e.value n.value }, tt)
+entry_is : (rows : List RowLine) (columns : List Name) (e : NamedEntry) (o : Option ℕ) → RowsKept rows → IsNamed columns e → number_of_row (row_named rows e.row) ≡ o → AllByRecursion (IsEntry (length (kept rows)) (length columns)) (entry_at (place columns e.column) e.value o)
+entry_is rows columns e None h n q = tt
+entry_is rows columns e (Some k) h n q =
+    let at = is_at rows e.row k h q in
+    (record { column = place_has columns e.column n.column; row = slice_get_within (kept rows) k at.row at.place; value = n.value }, tt)
 
 pub entries_are : (rows : List RowLine) (columns : List Name) (es : List NamedEntry) → RowsKept rows → EntriesKept rows columns es → AllByRecursion (IsEntry (length (kept rows)) (length columns)) (deck_entries rows columns es)
-entries_are rows columns es h k = all_flat (IsNamed rows columns) (IsEntry (length (kept rows)) (length columns)) (entry_of rows columns) (λ e n. entry_is rows columns e (row_named rows e.row).number n (named_placed rows e.row h n.row)) es k.named
+entries_are rows columns es h k = all_flat (IsNamed columns) (IsEntry (length (kept rows)) (length columns)) (entry_of rows columns) (λ e n. entry_is rows columns e (number_of_row (row_named rows e.row)) h n refl) es k.named
 
-at_most_one : (columns : List Name) (e : NamedEntry) (o : Option ℕ) → length (entry_at columns e o) ≤ 1
-at_most_one columns e None = omega arith
-at_most_one columns e (Some k) = omega arith
+at_most_one : (column : ℕ) (value : Fraction) (o : Option ℕ) → length (entry_at column value o) ≤ 1
+at_most_one column value None = omega arith
+at_most_one column value (Some k) = omega arith
 
 pub no_more_entries : (rows : List RowLine) (columns : List Name) (es : List NamedEntry) → length (deck_entries rows columns es) ≤ length es
 no_more_entries rows columns [] = omega arith
 no_more_entries rows columns (e ∷ es) =
-    omega (arith, no_more_entries rows columns es, at_most_one columns e (row_named rows e.row).number, length-append (entry_of rows columns e) (deck_entries rows columns es))
+    omega (arith, no_more_entries rows columns es, at_most_one (place columns e.column) e.value (number_of_row (row_named rows e.row)), length-append (entry_of rows columns e) (deck_entries rows columns es))

@@ -10,45 +10,36 @@ use Rattle.std.specs.Str.{bytes_eq}
 use Rattle.lp_base.specs.Ascending.{ascends_by}
 use Rattle.mps_lex.specs.Kinds.{Name}
 use Rattle.mps_pairs.specs.declared.deck.Entry.{Entry}
-use Rattle.mps_pairs.specs.Decks.{entry_column, entries_of}
+use Rattle.mps_pairs.specs.Decks.{IsDeckNumber, entry_column, entries_of}
 use Rattle.mps_pairs.specs.Names.{has, place, add_name}
-use Rattle.mps_pairs.specs.Numbers.{value_of, text_fault}
-use Rattle.mps_pairs.specs.Spelling.{RowLine, row_names, row_named, NamedEntry, rows_in, entry_at, entry_of, deck_entries}
+use Rattle.mps_pairs.specs.Spelling.{RowLine, row_named, number_of_row, NamedEntry, rows_in, entry_at, entry_of, deck_entries}
 use Rattle.mps_pairs.proofs.KeptParts.{all_append, all_weaker}
 use Rattle.mps_pairs.proofs.KeptNames.{own_name, place_has, place_same, has_more, place_more, place_own}
 use Rattle.mps_pairs.proofs.KeptRows.{RowsKept, same_number}
 
--- an entry of a row and a column that stand, with a number
-pub record IsNamed (rows : List RowLine) (columns : List Name) (e : NamedEntry) : Type 0 where
-  pub row : has (row_names rows) e.row ≡ true
+-- an entry in a column that stands, with a number
+pub record IsNamed (columns : List Name) (e : NamedEntry) : Type 0 where
   pub column : has columns e.column ≡ true
-  pub value : text_fault e.value ≡ None
+  pub value : IsDeckNumber e.value
 
 pub record EntriesKept (rows : List RowLine) (columns : List Name) (es : List NamedEntry) : Type 0 where
-  pub named : AllByRecursion (IsNamed rows columns) es
+  pub named : AllByRecursion (IsNamed columns) es
   pub ascending : (row : ℕ) → ascends_by entry_column (entries_of (deck_entries rows columns es) row) ≡ true
 
 -- ---- a column is added
 
-entry_same : (columns more : List Name) (e : NamedEntry) (o : Option ℕ) → place more e.column ≡ place columns e.column → entry_at more e o ≡ entry_at columns e o
-entry_same columns more e None same = refl
-entry_same columns more e (Some row) same = ap (λ (j : ℕ). made j ∷ []) same
-  where
-    made : ℕ → Entry
-    made j = record { column = j; row = row; value = value_of e.value }
-
-entries_same : (rows : List RowLine) (columns : List Name) (c : Name) (es : List NamedEntry) → AllByRecursion (IsNamed rows columns) es → deck_entries rows (add_name columns c) es ≡ deck_entries rows columns es
+entries_same : (rows : List RowLine) (columns : List Name) (c : Name) (es : List NamedEntry) → AllByRecursion (IsNamed columns) es → deck_entries rows (add_name columns c) es ≡ deck_entries rows columns es
 entries_same rows columns c [] h = refl
 entries_same rows columns c (e ∷ es) h =
-    ap (λ (x : List Entry). x ++ deck_entries rows (add_name columns c) es) (entry_same columns (add_name columns c) e (row_named rows e.row).number (place_more columns c e.column h.0.column))
+    ap (λ (j : ℕ). entry_at j e.value (number_of_row (row_named rows e.row)) ++ deck_entries rows (add_name columns c) es) (place_more columns c e.column h.0.column)
     ∙ ap (λ (x : List Entry). entry_of rows columns e ++ x) (entries_same rows columns c es h.1)
 
-named_more : (rows : List RowLine) (columns : List Name) (c : Name) (e : NamedEntry) → IsNamed rows columns e → IsNamed rows (add_name columns c) e
-named_more rows columns c e h = record { row = h.row; column = has_more columns c e.column h.column; value = h.value }
+named_more : (columns : List Name) (c : Name) (e : NamedEntry) → IsNamed columns e → IsNamed (add_name columns c) e
+named_more columns c e h = record { column = has_more columns c e.column h.column; value = h.value }
 
 pub column_added : (rows : List RowLine) (columns : List Name) (c : Name) (es : List NamedEntry) → EntriesKept rows columns es → EntriesKept rows (add_name columns c) es
 column_added rows columns c es h = record {
-  named = all_weaker (IsNamed rows columns) (IsNamed rows (add_name columns c)) (named_more rows columns c) es h.named;
+  named = all_weaker (IsNamed columns) (IsNamed (add_name columns c)) (named_more columns c) es h.named;
   ascending = λ row. ap (λ (x : List Entry). ascends_by entry_column (entries_of x row)) (entries_same rows columns c es h.named) ∙ h.ascending row;
 }
 
@@ -56,8 +47,8 @@ column_added rows columns c es h = record {
 abbrev pub IsLast : List Name → Name → List NamedEntry → Type 0
 IsLast columns c es = AllByRecursion (λ e. place columns e.column ≤ place columns c) es
 
-pub last_added : (rows : List RowLine) (columns : List Name) (c : Name) (es : List NamedEntry) → length columns ≤ place columns c + 1 → AllByRecursion (IsNamed rows columns) es → IsLast (add_name columns c) c es
-last_added rows columns c es whole h = all_weaker (IsNamed rows columns) (λ e. place (add_name columns c) e.column ≤ place (add_name columns c) c)
+pub last_added : (columns : List Name) (c : Name) (es : List NamedEntry) → length columns ≤ place columns c + 1 → AllByRecursion (IsNamed columns) es → IsLast (add_name columns c) c es
+last_added columns c es whole h = all_weaker (IsNamed columns) (λ e. place (add_name columns c) e.column ≤ place (add_name columns c) c)
     (λ e n. omega (arith, whole, place_has columns e.column n.column, place_more columns c e.column n.column, place_own columns c)) es h
 
 -- ---- an entry is added
@@ -85,29 +76,29 @@ fresh_here true e es r h same = absurd (true≢false (sym (own_name r) ∙ ap (b
 fresh_here false e es r h same = refl
 
 -- where an entry is in the row that is added to, it is in an earlier column
-below_one : (rows : List RowLine) (columns : List Name) (c r : Name) (k : ℕ) (e : NamedEntry) (o : Option ℕ) → RowsKept rows → has columns c ≡ true → has (row_names rows) r ≡ true → (row_named rows r).number ≡ Some k
-    → IsNamed rows columns e → place columns e.column ≤ place columns c → (e.row ≡ r → bytes_eq c e.column ≡ false) → (row_named rows e.row).number ≡ o
-    → AllByRecursion (IsBelow (place columns c)) (entries_of (entry_at columns e o) k)
-below_one rows columns c r k e None h hc hr number n le fresh o = tt
-below_one rows columns c r k e (Some j) h hc hr number n le fresh o = by (eqb j k) refl
+below_one : (rows : List RowLine) (columns : List Name) (c r : Name) (k : ℕ) (e : NamedEntry) (o : Option ℕ) → RowsKept rows → has columns c ≡ true → number_of_row (row_named rows r) ≡ Some k
+    → IsNamed columns e → place columns e.column ≤ place columns c → (e.row ≡ r → bytes_eq c e.column ≡ false) → number_of_row (row_named rows e.row) ≡ o
+    → AllByRecursion (IsBelow (place columns c)) (entries_of (entry_at (place columns e.column) e.value o) k)
+below_one rows columns c r k e None h hc number n le fresh o = tt
+below_one rows columns c r k e (Some j) h hc number n le fresh o = by (eqb j k) refl
   where
     x : Entry
-    x = record { column = place columns e.column; row = j; value = value_of e.value }
+    x = record { column = place columns e.column; row = j; value = e.value }
 
     by : (b : Bool) → eqb j k ≡ b → AllByRecursion (IsBelow (place columns c)) (cond b (x ∷ []) [])
     by true q =
-        let same : e.row ≡ r = same_number rows e.row r k h n.row hr (o ∙ ap (λ (i : ℕ). Some i) (eqb-true j k q)) number in
+        let same : e.row ≡ r = same_number rows e.row r k h (o ∙ ap (λ (i : ℕ). Some i) (eqb-true j k q)) number in
         (apart columns c e.column n.column hc (fresh same) le, tt)
     by false q = tt
 
-below : (rows : List RowLine) (columns : List Name) (c r : Name) (k : ℕ) (es : List NamedEntry) → RowsKept rows → has columns c ≡ true → has (row_names rows) r ≡ true → (row_named rows r).number ≡ Some k
-    → AllByRecursion (IsNamed rows columns) es → IsLast columns c es → has (rows_in c es) r ≡ false → AllByRecursion (IsBelow (place columns c)) (entries_of (deck_entries rows columns es) k)
-below rows columns c r k [] h hc hr number n last fresh = tt
-below rows columns c r k (e ∷ es) h hc hr number n last fresh =
+below : (rows : List RowLine) (columns : List Name) (c r : Name) (k : ℕ) (es : List NamedEntry) → RowsKept rows → has columns c ≡ true → number_of_row (row_named rows r) ≡ Some k
+    → AllByRecursion (IsNamed columns) es → IsLast columns c es → has (rows_in c es) r ≡ false → AllByRecursion (IsBelow (place columns c)) (entries_of (deck_entries rows columns es) k)
+below rows columns c r k [] h hc number n last fresh = tt
+below rows columns c r k (e ∷ es) h hc number n last fresh =
     let kept = filter (λ (x : NamedEntry). bytes_eq c x.column) es in
-    let o = (row_named rows e.row).number in
-    let here = below_one rows columns c r k e o h hc hr number n.0 last.0 (fresh_here (bytes_eq c e.column) e kept r fresh) refl in
-    let rest = below rows columns c r k es h hc hr number n.1 last.1 (fresh_rest (bytes_eq c e.column) e kept r fresh) in
+    let o = number_of_row (row_named rows e.row) in
+    let here = below_one rows columns c r k e o h hc number n.0 last.0 (fresh_here (bytes_eq c e.column) e kept r fresh) refl in
+    let rest = below rows columns c r k es h hc number n.1 last.1 (fresh_rest (bytes_eq c e.column) e kept r fresh) in
     subst (AllByRecursion (IsBelow (place columns c))) (sym (filter-append (λ (x : Entry). eqb x.row k) (entry_of rows columns e) (deck_entries rows columns es)))
     (all_append (IsBelow (place columns c)) (entries_of (entry_of rows columns e) k) (entries_of (deck_entries rows columns es) k) here rest)
 
@@ -115,25 +106,25 @@ entries_push : (rows : List RowLine) (columns : List Name) (es : List NamedEntry
 entries_push rows columns es e = flat_map-append (entry_of rows columns) es (e ∷ []) ∙ ap (λ (x : List Entry). deck_entries rows columns es ++ x) (append-nil (entry_of rows columns e))
 
 still_ascends : (columns : List Name) (e : NamedEntry) (xs : List Entry) (row : ℕ) (o : Option ℕ) → ((r : ℕ) → ascends_by entry_column (entries_of xs r) ≡ true) → ((k : ℕ) → o ≡ Some k → AllByRecursion (IsBelow (place columns e.column)) (entries_of xs k))
-    → ascends_by entry_column (entries_of xs row ++ entries_of (entry_at columns e o) row) ≡ true
+    → ascends_by entry_column (entries_of xs row ++ entries_of (entry_at (place columns e.column) e.value o) row) ≡ true
 still_ascends columns e xs row None h low = ap (ascends_by entry_column) (append-nil (entries_of xs row)) ∙ h row
 still_ascends columns e xs row (Some k) h low = by (eqb k row) refl
   where
     x : Entry
-    x = record { column = place columns e.column; row = k; value = value_of e.value }
+    x = record { column = place columns e.column; row = k; value = e.value }
 
     by : (b : Bool) → eqb k row ≡ b → ascends_by entry_column (entries_of xs row ++ cond b (x ∷ []) []) ≡ true
     by true q = ascends_push (entries_of xs row) x (h row) (subst (λ (r : ℕ). AllByRecursion (IsBelow (place columns e.column)) (entries_of xs r)) (eqb-true k row q) (low k refl))
     by false q = ap (ascends_by entry_column) (append-nil (entries_of xs row)) ∙ h row
 
 -- an entry of the last column, in a row in which it has none
-pub entry_added : (rows : List RowLine) (columns : List Name) (es : List NamedEntry) (e : NamedEntry) → RowsKept rows → EntriesKept rows columns es → IsNamed rows columns e → IsLast columns e.column es → has (rows_in e.column es) e.row ≡ false
+pub entry_added : (rows : List RowLine) (columns : List Name) (es : List NamedEntry) (e : NamedEntry) → RowsKept rows → EntriesKept rows columns es → IsNamed columns e → IsLast columns e.column es → has (rows_in e.column es) e.row ≡ false
     → EntriesKept rows columns (es ++ e ∷ [])
 entry_added rows columns es e h kept n last fresh = record {
-  named = all_append (IsNamed rows columns) es (e ∷ []) kept.named (n, tt);
+  named = all_append (IsNamed columns) es (e ∷ []) kept.named (n, tt);
   ascending = λ row. ap (λ (x : List Entry). ascends_by entry_column (entries_of x row)) (entries_push rows columns es e)
       ∙ ap (ascends_by entry_column) (filter-append (λ (x : Entry). eqb x.row row) (deck_entries rows columns es) (entry_of rows columns e))
-      ∙ still_ascends columns e (deck_entries rows columns es) row (row_named rows e.row).number kept.ascending (λ k q. below rows columns e.column e.row k es h n.column n.row q kept.named last fresh);
+      ∙ still_ascends columns e (deck_entries rows columns es) row (number_of_row (row_named rows e.row)) kept.ascending (λ k q. below rows columns e.column e.row k es h n.column q kept.named last fresh);
 }
 
 pub rows_push : (c : Name) (es : List NamedEntry) (e : NamedEntry) → e.column ≡ c → rows_in c (es ++ e ∷ []) ≡ rows_in c es ++ e.row ∷ []

@@ -1,5 +1,5 @@
 -- Pairs speak of quantities of the deck, and there are not too many.
-use Rattle.std.proofs.Common.{ℕ, ◌≤◌, ◌<◌, ◌≡◌, ℤ, pos, ◌≤ℤ◌, Bool, true, false, not, ◌||◌, cond, List, [], ◌∷◌, ◌++◌, length, map, Option, Some, None, sym, ap, subst, ◌∙◌, leb, arith}
+use Rattle.std.proofs.Common.{ℕ, ◌≤◌, ◌<◌, ◌≡◌, ℤ, pos, ◌≤ℤ◌, Bool, true, false, not, cond, List, [], ◌∷◌, ◌++◌, length, map, Option, Some, None, refl, sym, ap, subst, ◌∙◌, leb, arith}
 use Prim.Native.Nat.{◌∣◌}
 use Rattle.std.proofs.lemmas.Bool.{leb-false, and_parts, not-true}
 use Rattle.std.proofs.lemmas.Bool.Decides.{Decides-int_eq}
@@ -18,16 +18,16 @@ use Rattle.mps_pairs.specs.declared.deck.PairLine.{PairLine}
 use Rattle.mps_pairs.specs.declared.deck.Letter.{Letter}
 use Rattle.mps_pairs.specs.declared.deck.Letter.TheVariants.{N, E, L, G}
 use Rattle.mps_pairs.specs.declared.deck.Quantity.TheVariants.{Col, Row}
-use Rattle.mps_pairs.specs.declared.fault.DeckWhy.TheVariants.{NameTwice, UnknownName, PairKind, PairLower, TooMany}
+use Rattle.mps_pairs.specs.declared.fault.DeckWhy.TheVariants.{UnknownName, PairKind, PairLower, TooMany}
 use Rattle.mps_pairs.specs.Decks.{IsDeckNumber, NamesQuantity, is_inequality, zero}
 use Rattle.mps_pairs.specs.Names.{has, place}
 use Rattle.mps_pairs.specs.Numbers.{is_zero}
 use Rattle.mps_pairs.specs.Bounds.{Setting, settings_in, column_bounds}
-use Rattle.mps_pairs.specs.Spelling.{field, is_n, RowLine, kept, rows_of, row_names, row_named, column_names, Given, deck_row, pair_names, is_col, pair_of, deck_pairs}
-use Rattle.mps_pairs.specs.Faults.{◌or◌, fault_if, is_kind, is_free_from_zero, column_quantity_fault, row_quantity_fault, quantity_fault, pair_fault}
+use Rattle.mps_pairs.specs.Spelling.{field, is_n, RowLine, kept, rows_of, row_named, number_of_row, column_names, Given, deck_row, pair_names, is_col, pair_of, deck_pairs}
+use Rattle.mps_pairs.specs.Faults.{◌or◌, fault_if, is_free_from_zero, column_quantity_fault, row_quantity_fault, quantity_fault, pair_front_fault, many_pairs_fault, pair_fault}
 use Rattle.mps_pairs.proofs.KeptParts.{first_none, second_none, if_none, unless_none, get_map, all_map}
 use Rattle.mps_pairs.proofs.KeptNames.{get_place}
-use Rattle.mps_pairs.proofs.KeptRows.{RowsKept, PlacedAs, named_placed}
+use Rattle.mps_pairs.proofs.KeptRows.{RowsKept, PlacedAs, row_placed}
 use Rattle.mps_pairs.proofs.KeptBounds.{SettingsKept, column_is}
 use Rattle.mps_pairs.proofs.KeptSlices.{IsRightBy, pairs_fault, by_lines, each_line}
 
@@ -54,7 +54,7 @@ pub record IsMade (d : Deck) (rows : List RowLine) (columns : List Name) (ss : L
   pub rows_are : d.rows ≡ map (deck_row rights ranges) (kept rows)
   pub columns_are : d.columns ≡ map (column_bounds ss) columns
 
-column_named : (d : Deck) (rows : List RowLine) (columns : List Name) (ss : List Setting) (rights ranges : List Given) (n : Name) → IsMade d rows columns ss rights ranges → SettingsKept ss → column_quantity_fault columns ss n ≡ None → NamesQuantity d (Col (place columns n))
+column_named : (d : Deck) (rows : List RowLine) (columns : List Name) (ss : List Setting) (rights ranges : List Given) (n : Name) → IsMade d rows columns ss rights ranges → SettingsKept ss → column_quantity_fault columns (column_bounds ss) n ≡ None → NamesQuantity d (Col (place columns n))
 column_named d rows columns ss rights ranges n m h e =
     let unknown = fault_if (not (has columns n)) UnknownName in
     let lower = fault_if (not (is_free_from_zero (column_bounds ss n))) PairLower in
@@ -74,42 +74,42 @@ row_at d rows columns ss rights ranges r None m e p = absurd (not_dropped r.lett
 row_at d rows columns ss rights ranges r (Some k) m e p =
     (deck_row rights ranges r, ap (λ (x : List made.Row). slice_get x k) m.rows_are ∙ get_map (deck_row rights ranges) (kept rows) k r p, e)
 
+named_row : (d : Deck) (rows : List RowLine) (columns : List Name) (ss : List Setting) (rights ranges : List Given) (n : Name) (o : Option RowLine) → IsMade d rows columns ss rights ranges → RowsKept rows → row_named rows n ≡ o → row_quantity_fault o ≡ None
+    → NamesQuantity d (Row (unwrap_or (number_of_row o) 0))
+named_row d rows columns ss rights ranges n None m h q e = absurd cc
+named_row d rows columns ss rights ranges n (Some r) m h q e = row_at d rows columns ss rights ranges r r.number m (unless_none (is_inequality r.letter) PairKind e) (row_placed rows n r h q).0
+
 quantity_named : (d : Deck) (rows : List RowLine) (columns : List Name) (ss : List Setting) (rights ranges : List Given) (b : Bool) (n : Name) → IsMade d rows columns ss rights ranges → RowsKept rows → SettingsKept ss
-    → cond b (column_quantity_fault columns ss n) (row_quantity_fault rows n) ≡ None → NamesQuantity d (cond b (Col (place columns n)) (Row (unwrap_or (row_named rows n).number 0)))
+    → cond b (column_quantity_fault columns (column_bounds ss) n) (row_quantity_fault (row_named rows n)) ≡ None → NamesQuantity d (cond b (Col (place columns n)) (Row (unwrap_or (number_of_row (row_named rows n)) 0)))
 quantity_named d rows columns ss rights ranges true n m h k e = column_named d rows columns ss rights ranges n m k e
-quantity_named d rows columns ss rights ranges false n m h k e =
-    let unknown = fault_if (not (has (row_names rows) n)) UnknownName in
-    let kind = fault_if (not (is_inequality (row_named rows n).letter)) PairKind in
-    let stands : has (row_names rows) n ≡ true = unless_none (has (row_names rows) n) UnknownName (first_none unknown kind e) in
-    row_at d rows columns ss rights ranges (row_named rows n) (row_named rows n).number m (unless_none (is_inequality (row_named rows n).letter) PairKind (second_none unknown kind e)) (named_placed rows n h stands)
+quantity_named d rows columns ss rights ranges false n m h k e = named_row d rows columns ss rights ranges n (row_named rows n) m h refl e
 
 -- ---- a line
 
 record IsPairRight (rows : List RowLine) (columns : List Name) (ss : List Setting) (fs : List Name) : Type 0 where
-  pub first : quantity_fault rows columns ss (field 1 fs) (field 2 fs) ≡ None
-  pub second : quantity_fault rows columns ss (field 3 fs) (field 4 fs) ≡ None
+  pub first : quantity_fault rows columns (column_bounds ss) (field 1 fs) (field 2 fs) ≡ None
+  pub second : quantity_fault rows columns (column_bounds ss) (field 3 fs) (field 4 fs) ≡ None
 
 record IsPairLine (rows : List RowLine) (columns : List Name) (ss : List Setting) (pairs fs : List Name) : Type 0 where
   pub right : IsPairRight rows columns ss fs
   pub few : length pairs < 512
 
-pair_line : (rows : List RowLine) (columns : List Name) (ss : List Setting) (pairs fs : List Name) → pair_fault rows columns ss pairs fs ≡ None → IsPairLine rows columns ss pairs fs
+pair_line : (rows : List RowLine) (columns : List Name) (ss : List Setting) (pairs fs : List Name) → pair_fault rows columns (column_bounds ss) pairs fs ≡ None → IsPairLine rows columns ss pairs fs
 pair_line rows columns ss pairs [] e = absurd cc
 pair_line rows columns ss pairs (p ∷ []) e = absurd cc
 pair_line rows columns ss pairs (p ∷ k ∷ []) e = absurd cc
 pair_line rows columns ss pairs (p ∷ k ∷ a ∷ []) e = absurd cc
 pair_line rows columns ss pairs (p ∷ k ∷ a ∷ l ∷ []) e = absurd cc
 pair_line rows columns ss pairs (p ∷ k ∷ a ∷ l ∷ b ∷ []) e =
-    let kinds = fault_if (not (is_kind k) || not (is_kind l)) PairKind in
-    let twice = fault_if (has pairs p) NameTwice in
-    let one = quantity_fault rows columns ss k a in
-    let two = quantity_fault rows columns ss l b in
-    let many = fault_if (leb 512 (length pairs)) TooMany in
-    let after = second_none twice (one or two or many) (second_none kinds (twice or one or two or many) e) in
-    let last = second_none one (two or many) after in
+    let front = pair_front_fault pairs p k l in
+    let one = quantity_fault rows columns (column_bounds ss) k a in
+    let two = quantity_fault rows columns (column_bounds ss) l b in
+    let many = many_pairs_fault pairs in
+    let after = second_none front ((one or two) or many) e in
+    let both = first_none (one or two) many after in
     record {
-      right = record { first = first_none one (two or many) after; second = first_none two many last };
-      few = leb-false 512 (length pairs) (if_none (leb 512 (length pairs)) TooMany (second_none two many last));
+      right = record { first = first_none one two both; second = second_none one two both };
+      few = leb-false 512 (length pairs) (if_none (leb 512 (length pairs)) TooMany (second_none (one or two) many after));
     }
 pair_line rows columns ss pairs (p ∷ k ∷ a ∷ l ∷ b ∷ c ∷ fs) e = absurd cc
 

@@ -5,19 +5,19 @@ use Rattle.std.proofs.lemmas.List.{append-nil, length-append}
 use Rattle.std.proofs.lemmas.List.Elements.{filter-append}
 use Rattle.std.proofs.lemmas.List.Folds.{list_any-append}
 use Rattle.std.proofs.lemmas.List.Sums.{fold_push, sum_by_push}
-use Rattle.std.proofs.lemmas.Option.{same_Some, get_or_from_slice_get}
+use Rattle.std.proofs.lemmas.Option.{same_Some}
 use Rattle.std.specs.Prelude.{slice_get, is_some}
-use Rattle.std.specs.List.{list_any, position_or_len, AllByRecursion}
+use Rattle.std.specs.List.{list_any, find, position_or_len, AllByRecursion}
+use Rattle.std.specs.Str.{bytes_eq}
 use Rattle.mps_lex.specs.Kinds.{Name}
 use Rattle.mps_lex.specs.Lines.{Line}
 use Rattle.mps_pairs.specs.declared.deck.Letter.{Letter}
 use Rattle.mps_pairs.specs.declared.deck.Letter.TheVariants.{N, E, L, G}
 use Rattle.mps_pairs.specs.declared.fault.DeckWhy.TheVariants.{RowLetter, NameTwice, TooMany}
-use Rattle.mps_pairs.specs.Names.{has, place}
-use Rattle.mps_pairs.specs.Spelling.{field, letter_of, is_n, RowLine, has_objective, kept, number_behind, row_line, add_row, rows_of, row_names, other_rows, no_row, row_named}
+use Rattle.mps_pairs.specs.Spelling.{field, letter_of, is_n, RowLine, has_objective, kept, number_behind, row_line, add_row, rows_of, other_rows, row_named, number_of_row}
 use Rattle.mps_pairs.specs.Faults.{◌or◌, fault_if, is_letter, row_fault, many_rows_fault}
-use Rattle.mps_pairs.proofs.KeptParts.{second_none, if_none, all_append, all_weaker, all_at, get_front, get_last, get_mapped}
-use Rattle.mps_pairs.proofs.KeptNames.{one, get_place}
+use Rattle.mps_pairs.proofs.KeptParts.{second_none, if_none, all_append, all_weaker, all_at, get_front, get_last}
+use Rattle.mps_pairs.proofs.KeptNames.{one, same_name}
 use Rattle.mps_pairs.proofs.KeptSlices.{IsRightBy, rows_fault, by_lines}
 
 abbrev pub names_objective : RowLine → Bool
@@ -161,13 +161,13 @@ kept_one rs r number new h =
 number_at : (rs : List RowLine) (l : Letter) (b c : Bool) → is_n l ≡ b → has_objective rs ≡ c → number_behind rs l ≡ cond (b && c) None (Some (length (kept rs)))
 number_at rs l b c e f = ap (λ (x : Bool). cond (x && has_objective rs) None (Some (length (kept rs)))) e ∙ ap (λ (x : Bool). cond (b && x) None (Some (length (kept rs)))) f
 
-numbered_by : (rs : List RowLine) (l : Line) (b c : Bool) → is_n (letter_of (field 0 l.fields)) ≡ b → has_objective rs ≡ c → IsNumbered rs → IsNumbered (add_row rs l)
-numbered_by rs l true true e f h = dropped rs (row_line rs l) (number_at rs (letter_of (field 0 l.fields)) true true e f) e f h
-numbered_by rs l true false e f h = kept_one rs (row_line rs l) (number_at rs (letter_of (field 0 l.fields)) true false e f) (λ q. f) h
-numbered_by rs l false c e f h = kept_one rs (row_line rs l) (number_at rs (letter_of (field 0 l.fields)) false c e f) (λ q. absurd (true≢false (sym q ∙ e))) h
+numbered_by : (rs : List RowLine) (line : ℕ) (fs : List Name) (b c : Bool) → is_n (letter_of (field 0 fs)) ≡ b → has_objective rs ≡ c → IsNumbered rs → IsNumbered (rs ++ row_line rs line fs ∷ [])
+numbered_by rs line fs true true e f h = dropped rs (row_line rs line fs) (number_at rs (letter_of (field 0 fs)) true true e f) e f h
+numbered_by rs line fs true false e f h = kept_one rs (row_line rs line fs) (number_at rs (letter_of (field 0 fs)) true false e f) (λ q. f) h
+numbered_by rs line fs false c e f h = kept_one rs (row_line rs line fs) (number_at rs (letter_of (field 0 fs)) false c e f) (λ q. absurd (true≢false (sym q ∙ e))) h
 
 numbered_push : (rs : List RowLine) (l : Line) → IsNumbered rs → IsNumbered (add_row rs l)
-numbered_push rs l h = numbered_by rs l (is_n (letter_of (field 0 l.fields))) (has_objective rs) refl refl h
+numbered_push rs l h = numbered_by rs l.number l.fields (is_n (letter_of (field 0 l.fields))) (has_objective rs) refl refl h
 
 no_rows : IsNumbered []
 no_rows = record { placed = tt; one = tt; others = λ e. tt; objective = λ e. absurd cc; few_others = λ e. omega arith; few = omega arith }
@@ -178,7 +178,7 @@ room_left : (rs : List RowLine) (fs : List Name) → row_fault rs fs ≡ None �
 room_left rs [] e = absurd cc
 room_left rs (l ∷ []) e = absurd cc
 room_left rs (l ∷ n ∷ []) e =
-    let twice = fault_if (has (row_names rs) n) NameTwice in
+    let twice = fault_if (is_some (row_named rs n)) NameTwice in
     if_none (not (is_n (letter_of l)) && leb 2000 (other_rows rs)) TooMany (second_none twice (many_rows_fault rs l) (second_none (fault_if (not (is_letter l)) RowLetter) (twice or many_rows_fault rs l) e))
 room_left rs (l ∷ n ∷ m ∷ fs) e = absurd cc
 
@@ -201,7 +201,7 @@ LinesKept ls = RowsKept (rows_of ls)
 row_kept : (before : List Line) (l : Line) → LinesKept before → rows_fault before l.fields ≡ None → LinesKept (before ++ l ∷ [])
 row_kept before l h e = subst RowsKept (sym (fold_push add_row [] before l)) (record {
   numbered = numbered_push (rows_of before) l h.numbered;
-  few = few_push (rows_of before) (row_line (rows_of before) l) h.few (room_left (rows_of before) l.fields e);
+  few = few_push (rows_of before) (row_line (rows_of before) l.number l.fields) h.few (room_left (rows_of before) l.fields e);
 })
 
 pub rows_kept : (ls : List Line) → IsRightBy rows_fault [] ls → RowsKept (rows_of ls)
@@ -209,18 +209,37 @@ rows_kept ls h = by_lines rows_fault LinesKept row_kept [] ls (record { numbered
 
 -- ---- the row of a name
 
-pub row_found : (rs : List RowLine) (n : Name) → has (row_names rs) n ≡ true → (slice_get rs (place (row_names rs) n) ≡ Some (row_named rs n)) × ((row_named rs n).name ≡ n)
-row_found rs n h =
-    let r = get_mapped (λ (x : RowLine). x.name) rs (place (row_names rs) n) n (get_place (row_names rs) n h) in
-    let same : row_named rs n ≡ r.0 = get_or_from_slice_get rs (place (row_names rs) n) r.0 no_row r.1 in
-    (r.1 ∙ ap (λ (x : RowLine). Some x) (sym same), ap (λ (x : RowLine). x.name) same ∙ r.2)
+found_in : {X : Type 0} (p : X → Bool) (P : X → Type 0) (xs : List X) (x : X) → AllByRecursion P xs → find p xs ≡ Some x → P x × (p x ≡ true)
+found_in p P [] x h e = absurd cc
+found_in {X = X} p P (y ∷ xs) x h e = by (p y) refl e (λ q. found_in p P xs x h.1 q)
+  where
+    by : (b : Bool) → p y ≡ b → cond b (Some y) (find p xs) ≡ Some x → (find p xs ≡ Some x → P x × (p x ≡ true)) → P x × (p x ≡ true)
+    by true q f next = subst (λ (z : X). P z × (p z ≡ true)) (same_Some y x f) (h.0, q)
+    by false q f next = next f
 
-pub named_placed : (rs : List RowLine) (n : Name) → RowsKept rs → has (row_names rs) n ≡ true → IsPlaced (kept rs) (row_named rs n)
-named_placed rs n k h = all_at (IsPlaced (kept rs)) rs (place (row_names rs) n) (row_named rs n) k.numbered.placed (row_found rs n h).0
+pub row_placed : (rs : List RowLine) (n : Name) (r : RowLine) → RowsKept rs → row_named rs n ≡ Some r → IsPlaced (kept rs) r × (n ≡ r.name)
+row_placed rs n r h e =
+    let f = found_in (λ (x : RowLine). bytes_eq n x.name) (IsPlaced (kept rs)) rs r h.numbered.placed e in
+    (f.0, same_name n r.name f.1)
+
+-- the row of this name, which is kept at this number
+pub record IsAt (rs : List RowLine) (n : Name) (k : ℕ) : Type 0 where
+  pub row : RowLine
+  pub name : n ≡ row.name
+  pub place : slice_get (kept rs) k ≡ Some row
+
+at_number : (rs : List RowLine) (n : Name) (k : ℕ) (o : Option RowLine) → RowsKept rs → row_named rs n ≡ o → number_of_row o ≡ Some k → IsAt rs n k
+at_number rs n k None h e q = absurd cc
+at_number rs n k (Some r) h e q =
+    let p = row_placed rs n r h e in
+    record { row = r; name = p.1; place = subst (PlacedAs (kept rs) r) q p.0 }
+
+pub is_at : (rs : List RowLine) (n : Name) (k : ℕ) → RowsKept rs → number_of_row (row_named rs n) ≡ Some k → IsAt rs n k
+is_at rs n k h e = at_number rs n k (row_named rs n) h refl e
 
 -- one number has one name
-pub same_number : (rs : List RowLine) (m n : Name) (k : ℕ) → RowsKept rs → has (row_names rs) m ≡ true → has (row_names rs) n ≡ true → (row_named rs m).number ≡ Some k → (row_named rs n).number ≡ Some k → m ≡ n
-same_number rs m n k h hm hn em en =
-    let pm : slice_get (kept rs) k ≡ Some (row_named rs m) = subst (PlacedAs (kept rs) (row_named rs m)) em (named_placed rs m h hm) in
-    let pn : slice_get (kept rs) k ≡ Some (row_named rs n) = subst (PlacedAs (kept rs) (row_named rs n)) en (named_placed rs n h hn) in
-    sym (row_found rs m hm).1 ∙ ap (λ (x : RowLine). x.name) (same_Some (row_named rs m) (row_named rs n) (sym pm ∙ pn)) ∙ (row_found rs n hn).1
+pub same_number : (rs : List RowLine) (m n : Name) (k : ℕ) → RowsKept rs → number_of_row (row_named rs m) ≡ Some k → number_of_row (row_named rs n) ≡ Some k → m ≡ n
+same_number rs m n k h em en =
+    let a = is_at rs m k h em in
+    let b = is_at rs n k h en in
+    a.name ∙ ap (λ (x : RowLine). x.name) (same_Some a.row b.row (sym a.place ∙ b.place)) ∙ sym b.name

@@ -1,6 +1,6 @@
 -- Clean lines leave clean slices: each line of a section is right behind those of its slice, below the slices of the
 -- earlier sections, which are whole by then.
-use Rattle.std.proofs.Common.{ℕ, ◌≤◌, ◌<◌, ◌≡◌, Bool, true, false, not, ◌&&◌, cond, List, [], ◌∷◌, ◌++◌, Option, Some, None, refl, sym, ap, subst, ◌∙◌, append_assoc, leb, arith}
+use Rattle.std.proofs.Common.{ℕ, ◌≤◌, ◌<◌, ◌≡◌, Bool, true, false, not, ◌&&◌, cond, List, [], ◌∷◌, ◌++◌, length, Option, Some, None, refl, sym, ap, subst, ◌∙◌, append_assoc, leb, arith}
 use Rattle.std.proofs.lemmas.Bool.{and_parts, leb-true, eqb-true, not-false, true≢false}
 use Rattle.std.proofs.lemmas.List.{append-nil}
 use Rattle.std.specs.List.{AllByRecursion}
@@ -12,9 +12,9 @@ use Rattle.mps_lex.specs.declared.line.LineKind.{LineKind}
 use Rattle.mps_lex.specs.declared.line.LineKind.TheVariants.{Blank, Comment, Head, LeftOut, Unknown, Entry}
 use Rattle.mps_pairs.specs.declared.fault.DeckWhy.{DeckWhy}
 use Rattle.mps_pairs.specs.declared.fault.DeckWhy.TheVariants.{NoObjective, SectionOrder}
-use Rattle.mps_pairs.specs.Bounds.{bound_set, settings_in}
+use Rattle.mps_pairs.specs.Bounds.{bound_set, settings_in, column_bounds}
 use Rattle.mps_pairs.specs.Sections.{Open, is_open, is_entry, behind, open_from, open_behind, data_line, slice_from, slice, is_begun, rank, open_rank, may_follow}
-use Rattle.mps_pairs.specs.Spelling.{rows_of, has_objective, entries_in, column_names, given_set, given_rows, givens_in, first_set, pair_names}
+use Rattle.mps_pairs.specs.Spelling.{field, rows_of, rows_in, has_objective, entries_in, column_names, given_set, givens_in, first_set, pair_names}
 use Rattle.mps_pairs.specs.Faults.{fault_of, kind_fault, data_fault, ended_fault, order_fault, found_at, named_at, row_fault, column_fault, givens_fault, bound_fault, pair_fault}
 use Rattle.mps_pairs.specs.Texts.{IsClean, ends_deck}
 use Rattle.mps_pairs.proofs.KeptParts.{first_none, second_none, if_none, unless_none, map_none}
@@ -113,16 +113,16 @@ abbrev pub rows_fault : FaultBehind
 rows_fault before fs = row_fault (rows_of before) fs
 
 abbrev pub columns_fault : List Line → FaultBehind
-columns_fault rows before fs = column_fault (rows_of rows) (column_names before) (entries_in before) fs
+columns_fault rows before fs = column_fault (rows_of rows) (column_names before) (rows_in (field 0 fs) (entries_in before)) (length (entries_in before)) fs
 
 abbrev pub rights_fault : List Line → FaultBehind
-rights_fault rows before fs = givens_fault (rows_of rows) (first_set given_set before) (given_rows (givens_in before)) fs
+rights_fault rows before fs = givens_fault (rows_of rows) (first_set given_set before) (givens_in before) fs
 
 abbrev pub bounds_fault : List Line → FaultBehind
 bounds_fault columns before fs = bound_fault (column_names columns) (first_set bound_set before) fs
 
 abbrev pub pairs_fault : List Line → List Line → List Line → FaultBehind
-pairs_fault rows columns bounds before fs = pair_fault (rows_of rows) (column_names columns) (settings_in bounds) (pair_names before) fs
+pairs_fault rows columns bounds before fs = pair_fault (rows_of rows) (column_names columns) (column_bounds (settings_in bounds)) (pair_names before) fs
 
 -- a section that is still to come has no lines
 pub record IsOrdered (s : Open) (k : Slices) : Type 0 where
