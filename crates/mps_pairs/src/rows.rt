@@ -4,7 +4,7 @@ ghost use Rattle.mps_lex.specs.Shown.{shown};
 ghost use Rattle.mps_pairs.specs.Numbers.{value_of};
 ghost use Rattle.mps_pairs.specs.Faults.{is_letter, many_rows_fault, row_fault, entry_fault};
 ghost use Rattle.mps_pairs.specs.Known.{Judges};
-ghost use Rattle.mps_pairs.specs.Spelling.{letter_of, is_n, has_objective, number_behind, number_of_row, row_line, other_rows, row_named};
+ghost use Rattle.mps_pairs.specs.Spelling.{RowLine, letter_of, is_n, has_objective, kept, number_behind, number_of_row, row_line, other_rows, row_named};
 ghost use Rattle.mps_pairs.specs.Seen.{seen_row, shown_row, state_of};
 
 use crate::deck::Letter;
@@ -114,13 +114,15 @@ impl<'a> RowTable<'a> {
 
     /// The number of rows, dropped ones with them.
     pub fn len(&self) -> usize
-        ensures { result ≡ length self.now }
+        ensures len { result ≡ length self.now }
+        ensures few { length (kept self.now) ≤ 2001 }
     {
         self.held.len()
     }
 
     fn many_fault(&self, letter: &'a [u8]) -> Option<DeckWhy>
-        ensures { result ≡ many_rows_fault self.now letter.now }
+        ensures value { result ≡ many_rows_fault self.now letter.now }
+        ensures room { result ≡ None → (row : RowLine) → row.letter ≡ letter_of letter.now → other_rows (self.now ++ row ∷ []) ≤ 2000 }
     {
         if !is_n(letter_of(letter)) && self.others >= 2000 {
             return Some(DeckWhy::TooMany);
@@ -129,7 +131,9 @@ impl<'a> RowTable<'a> {
     }
 
     fn fault(&self, letter: &'a [u8], name: &'a [u8]) -> Option<DeckWhy>
-        ensures { result ≡ row_fault self.now (letter.now ∷ name.now ∷ []) }
+        ensures value { result ≡ row_fault self.now (letter.now ∷ name.now ∷ []) }
+        ensures fresh { result ≡ None → row_named self.now name.now ≡ None }
+        ensures room { result ≡ None → (row : RowLine) → row.letter ≡ letter_of letter.now → other_rows (self.now ++ row ∷ []) ≤ 2000 }
     {
         if !is_letter(letter) {
             return Some(DeckWhy::RowLetter);

@@ -1,5 +1,5 @@
 //! The reader's tables.
-ghost use Rattle.std.specs.Prelude.{◌≡◌, ◌≤◌, ◌∷◌, ◌++◌, OnOk, IfOk, [], map, length};
+ghost use Rattle.std.specs.Prelude.{◌≡◌, ◌≤◌, ◌∷◌, ◌++◌, if◌then◌else◌, OnOk, IfOk, None, [], map, length, position, unwrap_or};
 ghost use Rattle.std.specs.List.{position_or_len};
 ghost use Rattle.mps_lex.specs.Shown.{shown};
 ghost use Rattle.mps_pairs.specs.Spelling.{is_n, has_objective, kept, deck_row};
@@ -7,10 +7,12 @@ ghost use Rattle.mps_pairs.specs.Known.{known, known_fault, bounds_with, with_bo
 ghost use Rattle.mps_pairs.specs.Bounds.{below_zero_line};
 ghost use Rattle.mps_pairs.specs.Faults.{bound_fault, pair_fault};
 ghost use Rattle.mps_pairs.specs.Seen.{seen_row};
+ghost use Rattle.mps_pairs.specs.Names.{named};
+ghost use Rattle.mps_pairs.specs.Decks.{zero};
 
 use crate::bounds::BoundTable;
 use crate::columns::ColumnTable;
-use crate::deck::{Column, Deck, Row};
+use crate::deck::{Bound, Column, Deck, Letter, Row};
 use crate::fault::{DeckWhy, Fault};
 use crate::givens::GivenTable;
 use crate::names::Names;
@@ -41,25 +43,24 @@ impl<'a> Model for Tables<'a> {
     ghost view = { λ t. record { rows = t.rows; columns = t.columns; rights = t.rights; ranges = t.ranges; bounds = t.bounds; pairs = t.pairs } };
 }
 
-// The row of a deck.
-fn deck_row<'a>(
-    rights: &GivenTable<'a>,
-    ranges: &GivenTable<'a>,
-    name: &'a [u8],
-    row: RowState,
-) -> Row
-    ensures { result ≡ deck_row rights.now.givens ranges.now.givens (seen_row (name.now, row)) }
+// The right-hand side of a row, or 0.
+fn right_of<'a>(rights: &GivenTable<'a>, name: &'a [u8]) -> Frac
+    ensures { result ≡ unwrap_or (named rights.now.givens name.now) zero }
 {
-    Row {
-        letter: row.letter,
-        line: row.line,
-        rhs: rights.value(name).unwrap_or(Frac::whole(0)),
-        range: if is_n(row.letter) {
-            None
-        } else {
-            ranges.value(name)
-        },
+    match rights.value(name) {
+        Some(value) => value,
+        None => Frac::whole(0),
     }
+}
+
+// The range of a row, if it has one.
+fn range_of<'a>(ranges: &GivenTable<'a>, name: &'a [u8], letter: Letter) -> Option<Frac>
+    ensures { result ≡ (if is_n letter then None else named ranges.now.givens name.now) }
+{
+    if is_n(letter) {
+        return None;
+    }
+    ranges.value(name)
 }
 
 // Adds a row, if it is one of the deck.
@@ -73,7 +74,14 @@ fn add_row<'a>(
     ensures { OnOk result (found.new ≡ found.old ++ map (deck_row rights.now.givens ranges.now.givens) (kept (seen_row (name.now, row) ∷ []))) }
 {
     if row.number.is_some() {
-        found.push(deck_row(rights, ranges, name, row))?;
+        let rhs = right_of(rights, name);
+        let range = range_of(ranges, name, row.letter);
+        found.push(Row {
+            letter: row.letter,
+            line: row.line,
+            rhs,
+            range,
+        })?;
     }
     Ok(())
 }
@@ -84,7 +92,8 @@ fn deck_rows<'a>(
     rights: &GivenTable<'a>,
     ranges: &GivenTable<'a>,
 ) -> Result<Sequence<Row>, AllocError>
-    ensures { IfOk result (λ found. found ≡ map (deck_row rights.now.givens ranges.now.givens) (kept rows.now)) }
+    ensures rows { IfOk result (λ found. found ≡ map (deck_row rights.now.givens ranges.now.givens) (kept rows.now)) }
+    ensures few { IfOk result (λ found. length found ≤ 2001) }
 {
     let mut found = Sequence::new(alloc);
     for index in 0..rows.len() {
@@ -95,16 +104,18 @@ fn deck_rows<'a>(
     Ok(found)
 }
 
+fn objective_in(rows: &[Row]) -> Option<usize>
+    ensures { result ≡ position (λ r. is_n r.letter) rows.now }
+{
+    rows.iter().position(|row| is_n(row.letter))
+}
+
 // The place of the first N row, or the number of rows.
 fn objective_of(rows: &[Row]) -> usize
     ensures place { result ≡ position_or_len (λ r. is_n r.letter) rows.now }
     ensures within { result ≤ length rows.now }
 {
-    let mut index = 0;
-    while index < rows.len() && !is_n(rows[index].letter) {
-        index += 1;
-    }
-    index
+    objective_in(rows).unwrap_or(rows.len())
 }
 
 fn deck_columns<'a>(
@@ -117,7 +128,20 @@ fn deck_columns<'a>(
     let mut found = Sequence::new(alloc);
     for index in 0..names.len() {
         if let Some(name) = names.at(index) {
-            found.push(bounds.bounds(name))?;
+            let Column {
+                lower,
+                upper,
+                fixed,
+            } = bounds.bounds(name);
+            let lower = Bound {
+                value: lower.value,
+                line: lower.line,
+            };
+            found.push(Column {
+                lower,
+                upper,
+                fixed,
+            })?;
         }
     }
     Ok(found)
