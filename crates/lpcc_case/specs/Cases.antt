@@ -1,7 +1,6 @@
 -- The facts that a case keeps.
 use Rattle.std.specs.Prelude.{◌≡◌, ◌≢◌, ◌≤◌, ◌<◌, ◌^◌, ◌≤ℤ◌, ℕ, ℤ, pos, List, All, IsTrue, Some, length, slice_get, unsigned_abs}
 use Rattle.lp_base.specs.Ascending.{ascends_by, number_of}
-pub use Rattle.lp_base.specs.Ascending.{number_of as column_of}
 use Rattle.lpcc_case.specs.declared.limits.TheConstants.{MOST_COLUMNS, MOST_CONSTRAINTS, MOST_PAIRS}
 use Rattle.lpcc_case.specs.declared.constraint.Constraint.{Constraint}
 use Rattle.lpcc_case.specs.declared.constraint.Kind.TheVariants.{Ge}
