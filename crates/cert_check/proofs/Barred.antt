@@ -23,7 +23,7 @@ use Rattle.cert_text.specs.Certs.{no_good_of}
 use Rattle.cert_check.specs.declared.accept.NoWhy.{NoWhy}
 use Rattle.cert_check.specs.declared.accept.NoWhy.TheVariants.{WrongKind, CutFails, BoundLow, HintFails, NotEmptyAtEnd}
 use Rattle.cert_check.specs.Acceptance.{NoGoodFails, NoGoodsFail, PointCutPasses, HintsPass, EndsEmpty}
-use Rattle.cert_check.specs.Barring.{BarsNothingLower, NoGoodsPass, value_at}
+use Rattle.cert_check.specs.Barring.{BarsNothingLower, NoGoodsPass, claimed_by}
 use Rattle.cert_check.proofs.Stable.{Holds, all_stable, below_stable}
 
 -- the no-good names pairs of the instance, and bars nothing lower
@@ -44,7 +44,7 @@ from_passing a best ng P sound holds =
     (names_stable a ng (λ never. holds (λ h. never (sound h).0)), λ sides piece bars p lies improves. holds (λ h. (sound h).1 sides piece bars p lies improves))
 
 abbrev LinePasses : (a : Instance) → Option (Point a.columns) → List (List Choice) → CertLine → Type 0
-LinePasses a best earlier line = (why : NoWhy) → NoGoodFails a (value_at a best) earlier line why → ⊥
+LinePasses a best earlier line = (why : NoWhy) → NoGoodFails a (claimed_by a best) earlier line why → ⊥
 
 ray_sound : (a : Instance) (best : Option (Point a.columns)) (earlier : List (List Choice)) (ng : List Choice) (mult : List (ℕ × ℤ)) → LinePasses a best earlier (Ray ng mult) → IsSound a best ng
 ray_sound a best earlier ng mult passes =
@@ -79,7 +79,7 @@ line_sound a best earlier (Derived ng hints) passes before = derived_sound a bes
 abbrev LineIsSound : (a : Instance) → Option (Point a.columns) → CertLine → Type 0
 LineIsSound a best line = IsSound a best (no_good_of line)
 
-first_sound : (a : Instance) (best : Option (Point a.columns)) (lines : List CertLine) → NoGoodsPass a (value_at a best) lines → (n : ℕ) → n ≤ length lines → All (LineIsSound a best) (take n lines)
+first_sound : (a : Instance) (best : Option (Point a.columns)) (lines : List CertLine) → NoGoodsPass a (claimed_by a best) lines → (n : ℕ) → n ≤ length lines → All (LineIsSound a best) (take n lines)
 first_sound a best lines pass zero few = All-nil (LineIsSound a best)
 first_sound a best lines pass (suc n) few =
     let d : CertLine = Derived [] [] in
@@ -90,13 +90,13 @@ first_sound a best lines pass (suc n) few =
     let Q : ℕ → Type 0 = λ m. All (LineIsSound a best) (take m lines) in
     subst Q (add-one n) (All-more (LineIsSound a best) lines n d inside before here)
 
-all_sound : (a : Instance) (best : Option (Point a.columns)) (lines : List CertLine) → NoGoodsPass a (value_at a best) lines → All (IsSound a best) (map no_good_of lines)
+all_sound : (a : Instance) (best : Option (Point a.columns)) (lines : List CertLine) → NoGoodsPass a (claimed_by a best) lines → All (IsSound a best) (map no_good_of lines)
 all_sound a best lines pass =
     let Q : List CertLine → Type 0 = λ ls. All (LineIsSound a best) ls in
     let all : All (LineIsSound a best) lines = subst Q (take_all (length lines) lines (omega arith)) (first_sound a best lines pass (length lines) (omega arith)) in
     All-map (IsSound a best) no_good_of lines all
 
-pub lines_bar : (a : Instance) (best : Option (Point a.columns)) (lines : List CertLine) → NoGoodsPass a (value_at a best) lines → All (BarsNothingLower a best) (map no_good_of lines)
+pub lines_bar : (a : Instance) (best : Option (Point a.columns)) (lines : List CertLine) → NoGoodsPass a (claimed_by a best) lines → All (BarsNothingLower a best) (map no_good_of lines)
 lines_bar a best lines pass = All-weaker (IsSound a best) (BarsNothingLower a best) (λ ng s. s.1) (map no_good_of lines) (all_sound a best lines pass)
 
 -- the last no-good bars every piece, and each feasible point lies in a piece
@@ -111,7 +111,7 @@ ending_bars a best lines bars ends p feasible improves =
     last found.0 found.1 (λ k d none. absurd (omega arith)) p found.2 improves
 
 -- the same, from lines of which none fails, wherever they begin
-pub nothing_improves : (a : Instance) (best : Option (Point a.columns)) (lines : List CertLine) (first : ℕ) → ((n : ℕ) (why : NoWhy) → NoGoodsFail a (value_at a best) lines first n why → ⊥) → (p : Point a.columns) → IsFeasible a p → Improves a p best → ⊥
+pub nothing_improves : (a : Instance) (best : Option (Point a.columns)) (lines : List CertLine) (first : ℕ) → ((n : ℕ) (why : NoWhy) → NoGoodsFail a (claimed_by a best) lines first n why → ⊥) → (p : Point a.columns) → IsFeasible a p → Improves a p best → ⊥
 nothing_improves a best lines first pass p feasible improves =
-    let each : NoGoodsPass a (value_at a best) lines = λ k line why inside found fails. pass _ why (inl (k, line, found, refl, fails)) in
+    let each : NoGoodsPass a (claimed_by a best) lines = λ k line why inside found fails. pass _ why (inl (k, line, found, refl, fails)) in
     pass _ NotEmptyAtEnd (inr (refl, refl, λ ends. ending_bars a best lines (lines_bar a best lines each) ends p feasible improves))

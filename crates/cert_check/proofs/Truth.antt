@@ -19,7 +19,7 @@ use Rattle.cert_text.specs.declared.cert.CertLine.{CertLine}
 use Rattle.cert_check.specs.declared.accept.NoWhy.{NoWhy}
 use Rattle.cert_check.specs.declared.accept.NoWhy.TheVariants.{NotComplementary, ValueFails, RayFails}
 use Rattle.cert_check.specs.Acceptance.{Accepts, HasCost, IsWholePiece, NoGoodsFail, RayPasses, numbers_of}
-use Rattle.cert_check.specs.Barring.{value_at}
+use Rattle.cert_check.specs.Barring.{claimed_by}
 use Rattle.cert_check.proofs.Stable.{Holds, same_stable, lt_stable, relates_stable, all_stable, complementary_stable, tight_stable, numbers_stable}
 use Rattle.cert_check.proofs.PointLines.{PointLinePasses, point_given, abs_of_positive}
 use Rattle.cert_check.proofs.Barred.{nothing_improves}
@@ -41,7 +41,7 @@ optimal_true a point z lines value point_passes cost_holds passes is =
     let cost : cost_at a p ≡ z = ap (λ x. dot a.cost x) found.1.numbers ∙ sym (same_stable z (dot a.cost (numbers_of a.columns point.terms)) cost_holds) in
     let den = abs_of_positive value.den is.lowest.positive in
     let V : ℤ → ℤ → Type 0 = λ y d. Passes a (Some (y, d)) lines 5 in
-    let lines_pass : Passes a (value_at a (Some p)) lines 5 = subst (λ y. V y (pos p.d)) (sym cost) (subst (λ d. V z d) (sym found.1.denominator) passes) in
+    let lines_pass : Passes a (claimed_by a (Some p)) lines 5 = subst (λ y. V y (pos p.d)) (sym cost) (subst (λ d. V z d) (sym found.1.denominator) passes) in
     let lowest : (q : Point a.columns) → IsFeasible a q → IsLower a q p → ⊥ = λ q feasible_q lower. nothing_improves a (Some p) lines 5 lines_pass q feasible_q lower in
     (unsigned_abs value.den, den.0, (p, den.1, feasible, value_moves a p z point.d value (unsigned_abs value.den) cost found.1.denominator den.0 is.same, lowest))
 

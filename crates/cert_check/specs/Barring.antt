@@ -18,9 +18,9 @@ BarsNothingLower a best no_good =
     (sides : List Side) → IsPiece a sides → Bars no_good sides → (p : Point a.columns) → LiesIn a sides p → Improves a p best → ⊥
 
 -- the cost of the best point times its denominator, and the denominator
-abbrev pub value_at : (a : Instance) → Option (Point a.columns) → Option (ℤ × ℤ)
-value_at a None = None
-value_at a (Some p) = Some (cost_at a p, pos p.d)
+abbrev pub claimed_by : (a : Instance) → Option (Point a.columns) → Option (ℤ × ℤ)
+claimed_by a None = None
+claimed_by a (Some p) = Some (cost_at a p, pos p.d)
 
 -- none of the first n lines fails over the no-goods of the lines before it
 abbrev pub FirstPass : Instance → Option (ℤ × ℤ) → List CertLine → ℕ → Type 0

@@ -9,12 +9,12 @@ ghost use Rattle.cert_text.specs.declared.cert.CertLine.{CertLine};
 ghost use Rattle.cert_text.specs.Certs.{no_good_of};
 ghost use Rattle.cert_check.specs.declared.accept.NoWhy.{NoWhy as Reason};
 ghost use Rattle.cert_check.specs.Acceptance.{Accepts, Refuses};
-ghost use Rattle.cert_check.specs.Barring.{BarsNothingLower, NoGoodsPass, value_at};
+ghost use Rattle.cert_check.specs.Barring.{BarsNothingLower, NoGoodsPass, claimed_by};
 
 /// Where no line fails over those before it, each no-good bars only pieces in which no point is
 /// lower than the best point, whose value is claimed; without one, only pieces without points.
 pub fn passed_lines_bar_nothing_lower()
-    ensures { (a : Instance) (best : Option (Point a.columns)) (lines : List CertLine) → NoGoodsPass a (value_at a best) lines →
+    ensures { (a : Instance) (best : Option (Point a.columns)) (lines : List CertLine) → NoGoodsPass a (claimed_by a best) lines →
         All (BarsNothingLower a best) (map no_good_of lines) }
 {}
 
