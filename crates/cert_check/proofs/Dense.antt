@@ -9,7 +9,8 @@ use Rattle.lp_base.specs.Ascending.{ascends_by}
 use Rattle.lp_base.specs.Numbers.{IsNarrow}
 use Rattle.lp_base.proofs.SumLaws.{sum_over-more}
 use Rattle.lpcc_case.specs.Points.{coefficient}
-use Rattle.cuts.proofs.Columns.{coefficient_before, share, share_at, share_other}
+use Rattle.lpcc_case.proofs.Shares.{share, share_at, share_other}
+use Rattle.cuts.proofs.Columns.{coefficient_before}
 use Rattle.cert_text.specs.Certs.{number_of}
 use Rattle.cert_check.specs.Acceptance.{numbers_of}
 

@@ -17,7 +17,7 @@ abbrev pub BarsNothingLower : (a : Instance) → Option (Point a.columns) → Li
 BarsNothingLower a best no_good =
     (sides : List Side) → IsPiece a sides → Bars no_good sides → (p : Point a.columns) → LiesIn a sides p → Improves a p best → ⊥
 
--- the cost of the best point times its denominator, and the denominator
+-- the value that a best point claims: its cost times its denominator, and the denominator
 abbrev pub claimed_by : (a : Instance) → Option (Point a.columns) → Option (ℤ × ℤ)
 claimed_by a None = None
 claimed_by a (Some p) = Some (cost_at a p, pos p.d)
