@@ -1,6 +1,6 @@
 -- What the tests of single lines say of the first line that fails.
 use Rattle.std.proofs.Common.{ℕ, ◌<◌, ◌≤◌, ◌≡◌, refl, sym, ap, ◌∙◌, subst, arith, ℤ, Bool, true, false, List, length, get_or, inl, inr, map, Option, Some, None}
-use Rattle.std.specs.Prelude.{◌↔◌, unsigned_abs}
+use Rattle.std.specs.Prelude.{◌↔◌}
 use Rattle.std.specs.List.{range_with_len}
 use Rattle.std.proofs.lemmas.Bool.{both_ways}
 use Rattle.std.proofs.lemmas.List.{length-map, map-id}
@@ -19,6 +19,7 @@ use Rattle.lpcc_case.specs.Values.{IsValue}
 use Rattle.lpcc_case.specs.declared.verdict.Verdict.TheVariants as verdict
 use Rattle.lp_nums.specs.Fractions.{Fraction}
 use Rattle.cert_text.specs.declared.cert.Cert.TheVariants.{Optimal, Infeasible, Unbounded}
+use Rattle.lpcc_case.proofs.Meanings.{means_one}
 use Rattle.cert_text.specs.declared.cert.CertPoint.{CertPoint}
 use Rattle.cert_text.specs.declared.cert.CertLine.{CertLine}
 use Rattle.cert_text.specs.Certs.{IsPoint}
@@ -28,7 +29,7 @@ use Rattle.cert_check.specs.declared.accept.CheckFault.{CheckFault}
 use Rattle.cert_check.specs.declared.accept.CheckFault.TheVariants.{No, NoMemory}
 use Rattle.cert_check.specs.Acceptance.{Accepts, GivesMet, HasCost, IsWholePiece, LineFails, NamesColumns, NoGoodsFail, PointLineFails, RayPasses, Refuses, RefusesAs, numbers_of}
 use Rattle.cert_check.specs.Results.{IsPointOfLine, NamesFirst}
-use Rattle.cert_check.proofs.PointLines.{PointLinePasses, abs_of_positive}
+use Rattle.cert_check.proofs.PointLines.{PointLinePasses}
 use Rattle.cert_check.proofs.Following.{whole_size, whole_at}
 use Rattle.cert_check.proofs.Single.{from_first}
 
@@ -40,12 +41,10 @@ means_from a line q x d p gives = (gives.numbers ∙ sym x, gives.denominator �
 point_of_line : (a : Instance) (line : CertPoint) (z : ℤ) (q : Point) (b : Bool) → IsPoint line → NamesColumns a line.terms → AreNumbersOf a q.x → q.x ≡ numbers_of a.columns line.terms → q.d ≡ line.d → q.z ≡ z
     → ((p : points.Point a.columns) → Means q p → (b ≡ true) ↔ MeetsAll a p) → b ≡ true → IsPointOfLine a line z q
 point_of_line a line z q b form named numbers x d value exact meets =
-    let denominator = abs_of_positive line.d form.positive in
-    let p : points.Point a.columns = record { x = q.x; d = unsigned_abs line.d; size = numbers.size; positive = denominator.1 } in
-    let means : Means q p = (refl, denominator.0 ∙ sym d) in
     let fits : IsPointFor a q = record { numbers = numbers; narrow = rw d form.narrow; positive = rw d form.positive } in
-    let gives : GivesMet a line p = record { columns = named; numbers = x; denominator = denominator.0; met = (exact p means).0 meets } in
-    record { fits = fits; given = (p, gives); means = means_from a line q x d; denominator = d; value = value }
+    let p = means_one a q fits in
+    let gives : GivesMet a line p.0 = record { columns = named; numbers = p.1.0 ∙ x; denominator = p.1.1 ∙ d; met = (exact p.0 p.1).0 meets } in
+    record { fits = fits; given = (p.0, gives); means = means_from a line q x d; denominator = d; value = value }
 
 -- the same, where the terms were read as a list of their own
 pub point_read : (a : Instance) (line : CertPoint) (terms : List (ℕ × ℤ)) (z : ℤ) (q : Point) (b : Bool) → terms ≡ line.terms → IsPoint line → NamesColumns a terms → AreNumbersOf a q.x → q.x ≡ numbers_of a.columns terms → q.d ≡ line.d → q.z ≡ z

@@ -11,7 +11,7 @@ use cert_text::CertLine;
 use cuts::{check_ray, point_bound};
 use derivation::{NoGoods, closes};
 use lp_nums::compare;
-use lpcc_case::Case;
+use lpcc_case::{Case, MOST_PAIRS};
 use nogoods::{Choice, NoGood};
 use std::cmp::Ordering;
 
@@ -53,7 +53,7 @@ fn names_pairs(case: &Case, ng: &NoGood) -> bool
 
 /// Whether the choices name pairs and the hint run over the lines before closes.
 fn hints_pass(case: &Case, before: &[CertLine], ng: &NoGood, hints: &[u64]) -> bool
-    requires pairs { NamesBelow 512 ng.now }
+    requires few_pairs { NamesBelow MOST_PAIRS ng.now }
     requires form_before { All IsLine before.now }
     ensures { IsTrue result ↔ HintsPass case.now (map no_good_of before.now) ng.now hints.now }
 {

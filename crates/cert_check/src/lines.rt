@@ -48,7 +48,7 @@ pub(crate) fn judge_lines(
 ) -> Result<(), CheckFault>
     requires positive { IsOverPositive value }
     requires form { All IsLine lines.now }
-    requires near { first < 10 }
+    requires small { first < 10 }
     ensures passed { IfOk result (λ done. (n : ℕ) (why : Reason) → NoGoodsFail case.now value lines.now first n why → ⊥) }
     ensures refused { IfErr result (NamesFirst (NoGoodsFail case.now value lines.now first)) }
 {
