@@ -10,3 +10,7 @@ pub mod Numbers
 pub mod WordLists
 pub mod Forms
 pub mod Relations
+pub mod Joined
+pub mod Stepping
+pub mod Plain
+pub mod Certificates
