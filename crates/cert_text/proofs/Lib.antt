@@ -14,3 +14,5 @@ pub mod Joined
 pub mod Stepping
 pub mod Plain
 pub mod Certificates
+pub mod Frames
+pub mod Clauses
