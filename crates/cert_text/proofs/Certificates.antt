@@ -199,7 +199,7 @@ unbounded_takes left y e =
     let made : Cert × Left = (Unbounded a.0.0 b.0.0 r.0.0, d.0.1) in
     subst (TailOf kinds.Unbounded left) {x = made} (same_ok made y d.2) (record {
       lines = ap (titled kinds.Unbounded) (cl.0 ∙ ap (λ (ls : List (List ℕ)). line_bytes (piece_words a.0.0) ∷ ls)
-      (pl.0 ∙ ap (λ (ls : List (List ℕ)). line_bytes (point_words b.0.0) ∷ ls) (ql.0 ∙ ap (λ (ls : List (List ℕ)). line_bytes (ray_words r.0.0) ∷ ls) kl.0)));
+          (pl.0 ∙ ap (λ (ls : List (List ℕ)). line_bytes (point_words b.0.0) ∷ ls) (ql.0 ∙ ap (λ (ls : List (List ℕ)). line_bytes (ray_words r.0.0) ∷ ls) kl.0)));
       form = (ct.1, pt.1, qt.1);
       few = kt.1;
       cut_is = kl.1 ∙ ql.1 ∙ pl.1 ∙ cl.1;
@@ -229,7 +229,7 @@ cert_takes left c e =
     let over = over_takes t.0.1 o.0 o.1 in
     subst (CertIs left) {x = t.0.0} (same_ok t.0.0 c o.2) (record {
       lines = head.0 ∙ ap (λ (ls : List (List ℕ)). head_line ∷ ls) (kind.lines ∙ ap (λ (l : List ℕ). l ∷ k.0.1.lines) (kind_takes kind.line k.0.0 kind.read)) ∙ tail.lines
-      ∙ ap (λ (ls : List (List ℕ)). cert_lines t.0.0 ++ ls) over.0 ∙ append-nil (cert_lines t.0.0);
+          ∙ ap (λ (ls : List (List ℕ)). cert_lines t.0.0 ++ ls) over.0 ∙ append-nil (cert_lines t.0.0);
       form = tail.form;
       few = tail.few;
       whole = sym (ap (λ (r : Left). r.cut) head.1) ∙ sym (ap (λ (r : Left). r.cut) kind.next_is) ∙ sym tail.cut_is ∙ over.1;
@@ -250,6 +250,7 @@ no_end x = by_first x (words_of x)
     words_of (lines.Ray ng mult) = words_joined _ _ (plain_line (lines.Ray ng mult))
     words_of (lines.Point ng e mult) = words_joined _ _ (plain_line (lines.Point ng e mult))
     words_of (lines.Derived ng hints) = words_joined _ _ (plain_line (lines.Derived ng hints))
+
     by_first : (x : CertLine) → words (line_text x) ≡ line_words x → (words (line_text x) ≡ line_words x) × (is_last (line_text x) ≡ false)
     by_first (lines.Ray ng mult) e = (e, last_by (line_text (lines.Ray ng mult)) (codes "i") _ false e refl)
     by_first (lines.Point ng k mult) e = (e, last_by (line_text (lines.Point ng k mult)) (codes "p") _ false e refl)
@@ -276,9 +277,11 @@ log_again n m t [] ls all h e small =
     (t + 1, ap (λ (r : Reading (Option CertLine)). at (t + 1) r >>= goes_on n (left_of t all) ls) (ap (entry_at n) (ap end_text (sym same)) ∙ entry_ends n (omega (arith, small, same))))
 log_again n m t (x ∷ xs) ls all h e small =
     let rest = map line_text xs ++ end_text m ∷ ls in
-    let next = log_again (n + 1) m (t + 1) xs ls rest (All-tail IsLine x xs h) (omega (arith, e)) small in
-    (next.0, ap (λ (r : Reading (Option CertLine)). at (t + 1) r >>= goes_on n (left_of t all) rest) (entry_again n x (All-head IsLine x xs h))
-    ∙ ap (λ (r : Found (List CertLine × Left)). r >>= λ log. Ok (x ∷ log.0, log.1)) next.1)
+    let next = log_again (n + 1) m (t + 1) xs ls rest (All-tail IsLine x xs h) (omega (arith, e)) small in (
+      next.0,
+      ap (λ (r : Reading (Option CertLine)). at (t + 1) r >>= goes_on n (left_of t all) rest) (entry_again n x (All-head IsLine x xs h))
+          ∙ ap (λ (r : Found (List CertLine × Left)). r >>= λ log. Ok (x ∷ log.0, log.1)) next.1,
+    )
 
 log_read : (t : ℕ) (xs : List CertLine) → All IsLine xs → length xs < 2 ^ 64 → (u : ℕ) × (log_step 0 (left_of t (log_lines xs)) ≡ Ok (xs, left_of u []))
 unfolding log_step
@@ -300,25 +303,27 @@ kind_of (Unbounded ng p ray) = kinds.Unbounded
 tail_again : (t : ℕ) (c : Cert) → KeepsForm c → length (lines_of c) < 2 ^ 64 → (u : ℕ) × (step_of (kind_of c) (left_of t (tail_lines c)) ≡ Ok (c, left_of u []))
 unfolding optimal_step infeasible_step unbounded_step last_step kind_of tail_lines
 tail_again t (Optimal p z xs) h few =
-    let log = log_read (t + 1 + 1) xs h.2 few in
-    (log.0,
+    let log = log_read (t + 1 + 1) xs h.2 few in (
+      log.0,
       ap (λ (r : Found (CertPoint × Left)). r >>= λ point. line_as value_at point.1 >>= λ y. log_step 0 y.1 >>= λ k. Ok (Optimal point.0 y.0 k.0, k.1))
-      (line_as_again point_at t _ _ (line_bytes (value_words z) ∷ log_lines xs) p (plain_point p) (point_again p h.0))
-      ∙ ap (λ (r : Found (ℤ × Left)). r >>= λ y. log_step 0 y.1 >>= λ k. Ok (Optimal p y.0 k.0, k.1)) (line_as_again value_at (t + 1) _ _ (log_lines xs) z (plain_value z) (value_again z h.1))
-      ∙ ap (λ (r : Found (List CertLine × Left)). r >>= λ k. Ok (Optimal p z k.0, k.1)) log.1)
+          (line_as_again point_at t _ _ (line_bytes (value_words z) ∷ log_lines xs) p (plain_point p) (point_again p h.0))
+          ∙ ap (λ (r : Found (ℤ × Left)). r >>= λ y. log_step 0 y.1 >>= λ k. Ok (Optimal p y.0 k.0, k.1)) (line_as_again value_at (t + 1) _ _ (log_lines xs) z (plain_value z) (value_again z h.1))
+          ∙ ap (λ (r : Found (List CertLine × Left)). r >>= λ k. Ok (Optimal p z k.0, k.1)) log.1,
+    )
 tail_again t (Infeasible xs) h few =
     let log = log_read t xs h few in
     (log.0, ap (λ (r : Found (List CertLine × Left)). r >>= λ k. Ok (Infeasible k.0, k.1)) log.1)
-tail_again t (Unbounded ng p ray) h few =
-    (t + 1 + 1 + 1 + 1,
-      ap (λ (r : Found (List Choice × Left)). r >>= λ piece. line_as point_at piece.1 >>= λ point. line_as ray_at point.1 >>= λ q. line_as (end_at 0) q.1 >>= λ last. Ok (Unbounded piece.0 point.0 q.0, last.1))
+tail_again t (Unbounded ng p ray) h few = (
+  t + 1 + 1 + 1 + 1,
+  ap (λ (r : Found (List Choice × Left)). r >>= λ piece. line_as point_at piece.1 >>= λ point. line_as ray_at point.1 >>= λ q. line_as (end_at 0) q.1 >>= λ last. Ok (Unbounded piece.0 point.0 q.0, last.1))
       (line_as_again piece_at t _ _ (line_bytes (point_words p) ∷ line_bytes (ray_words ray) ∷ end_text 0 ∷ []) ng (plain_piece ng) (piece_line_again ng h.0))
       ∙ ap (λ (r : Found (CertPoint × Left)). r >>= λ point. line_as ray_at point.1 >>= λ q. line_as (end_at 0) q.1 >>= λ last. Ok (Unbounded ng point.0 q.0, last.1))
       (line_as_again point_at (t + 1) _ _ (line_bytes (ray_words ray) ∷ end_text 0 ∷ []) p (plain_point p) (point_again p h.1))
       ∙ ap (λ (r : Found (List (ℕ × ℤ) × Left)). r >>= λ q. line_as (end_at 0) q.1 >>= λ last. Ok (Unbounded ng p q.0, last.1))
       (line_as_again ray_at (t + 1 + 1) _ _ (end_text 0 ∷ []) ray (plain_ray ray) (ray_again ray h.2))
       ∙ ap (λ (r : Found (ℕ × Left)). r >>= λ last. Ok (Unbounded ng p ray, last.1))
-      (line_as_again (end_at 0) (t + 1 + 1 + 1) _ _ [] 0 (plain_end 0) (end_again 0 few)))
+      (line_as_again (end_at 0) (t + 1 + 1 + 1) _ _ [] 0 (plain_end 0) (end_again 0 few)),
+)
 
 kind_again : (k : Kind) → kind_in (kind_line k) ≡ Ok k
 unfolding kind_in

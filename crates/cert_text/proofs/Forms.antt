@@ -85,9 +85,11 @@ value_takes ws z e =
     let v = bind_ok (cost_value_at f.0.0) (λ y. ended f.0.1 >>= λ _. Ok y) z f.2 in
     let n = bind_ok (ended f.0.1) (λ _. Ok v.0) z v.2 in
     let t = cost_value_takes f.0.0 v.0 v.1 in
-    subst (λ (y : ℤ). (ws ≡ value_words y) × (unsigned_abs y ≤ 2 ^ 126)) {x = v.0} (same_ok v.0 z n.2)
-    (after_takes (codes "value") ws a.0 a.1
-    ∙ ap (λ (x : List Word). codes "value" ∷ x) (first_takes a.0 f.0 f.1 ∙ ap (λ (x : Word). x ∷ f.0.1) (sym t.0) ∙ ap (λ (x : List Word). signed_decimal v.0 ∷ x) (ended_takes f.0.1 n.0 n.1)), t.1)
+    subst (λ (y : ℤ). (ws ≡ value_words y) × (unsigned_abs y ≤ 2 ^ 126)) {x = v.0} (same_ok v.0 z n.2) (
+      after_takes (codes "value") ws a.0 a.1
+          ∙ ap (λ (x : List Word). codes "value" ∷ x) (first_takes a.0 f.0 f.1 ∙ ap (λ (x : Word). x ∷ f.0.1) (sym t.0) ∙ ap (λ (x : List Word). signed_decimal v.0 ∷ x) (ended_takes f.0.1 n.0 n.1)),
+      t.1,
+    )
 
 pub value_again : (z : ℤ) → unsigned_abs z ≤ 2 ^ 126 → value_at (value_words z) ≡ Ok z
 unfolding value_at first_at ended
@@ -177,6 +179,7 @@ cut_takes kind ws x e = elim (either (bytes_eq kind (codes "i")) (ray_cut_at ws)
   where
     read : CertLine → Reading CertLine
     read x = Ok x
+
     no_line : (x : CertLine) → Err BadLine ≡ read x → ⊥
     no_line x e = absurd cc
 
@@ -221,9 +224,11 @@ end_takes n ws k e =
     let f = bind_ok (first_at a.0) (λ first. count_at n first.0 >>= λ y. ended first.1 >>= λ _. Ok y) k a.2 in
     let v = bind_ok (count_at n f.0.0) (λ y. ended f.0.1 >>= λ _. Ok y) k f.2 in
     let z = bind_ok (ended f.0.1) (λ _. Ok v.0) k v.2 in
-    let t = count_takes n f.0.0 v.0 v.1 in
-    (after_takes (codes "end") ws a.0 a.1
-    ∙ ap (λ (x : List Word). codes "end" ∷ x) (first_takes a.0 f.0 f.1 ∙ ap (λ (x : Word). x ∷ f.0.1) (sym t.0) ∙ ap (λ (x : List Word). decimal n ∷ x) (ended_takes f.0.1 z.0 z.1)), t.1)
+    let t = count_takes n f.0.0 v.0 v.1 in (
+      after_takes (codes "end") ws a.0 a.1
+          ∙ ap (λ (x : List Word). codes "end" ∷ x) (first_takes a.0 f.0 f.1 ∙ ap (λ (x : Word). x ∷ f.0.1) (sym t.0) ∙ ap (λ (x : List Word). decimal n ∷ x) (ended_takes f.0.1 z.0 z.1)),
+      t.1,
+    )
 
 pub end_again : (n : ℕ) → n < 2 ^ 64 → end_at n (codes "end" ∷ decimal n ∷ []) ≡ Ok n
 unfolding end_at first_at ended

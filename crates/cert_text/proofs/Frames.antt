@@ -154,9 +154,12 @@ entry_ends base log left l ls (Err why) o judged entry next =
     ap (λ (w : Option CertWhy). or_later w (length (base ++ log) + 1) (first_fault left.cut ((base ++ log) ++ l ∷ []) ls)) judged ∙ ap (λ (n : ℕ). fault_is (n + 1, why)) (sym o.number)
 entry_ends base log left l ls (Ok None) o judged entry next =
     let last = entry None refl in
-    let longer = length_push (base ++ log) l in
-    ((base ++ log) ++ l ∷ [], ended_last (base ++ log) l last.0, omega (arith, o.number, longer),
-      ap (λ (w : Option CertWhy). or_later w (length (base ++ log) + 1) (first_fault left.cut ((base ++ log) ++ l ∷ []) ls)) judged)
+    let longer = length_push (base ++ log) l in (
+      (base ++ log) ++ l ∷ [],
+      ended_last (base ++ log) l last.0,
+      omega (arith, o.number, longer),
+      ap (λ (w : Option CertWhy). or_later w (length (base ++ log) + 1) (first_fault left.cut ((base ++ log) ++ l ∷ []) ls)) judged,
+    )
 entry_ends base log left l ls (Ok (Some x)) o judged entry next =
     let more = entry (Some x) refl in
     let longer = length_push log l in
@@ -192,8 +195,8 @@ line_ends : {X : Type 0} (f : List Word → Reading X) (before : Lines) (left : 
 line_ends f before left k o judged next =
     ends_bind (first before left) (line_as f left) k (λ x e. line_fails f before left x o judged e)
     (λ a e.
-      let s = line_stepped f left a e in
-      ends_from (first before left) (first (before ++ s.line ∷ []) a.1) (k a) (step_goes_on (λ l. f (words l)) before left a.0 a.1 judged s) (next a s))
+    let s = line_stepped f left a e in
+    ends_from (first before left) (first (before ++ s.line ∷ []) a.1) (k a) (step_goes_on (λ l. f (words l)) before left a.0 a.1 judged s) (next a s))
 
 no_last : (l : List ℕ) (kind : Word) (ws : List Word) → words l ≡ kind ∷ ws → bytes_eq kind (codes "end") ≡ false → is_last l ≡ false
 no_last l kind ws e h = last_by l kind ws false e h
@@ -218,12 +221,12 @@ unfolding optimal_step
 optimal_ends left o =
     let b0 = titles kinds.Optimal in
     line_ends point_at b0 left (λ point. line_as value_at point.1 >>= λ z. log_step 0 z.1 >>= λ log. Ok (Optimal point.0 z.0 log.0, log.1)) o (λ l. refl) (λ a s.
-      let b1 = b0 ++ s.line ∷ [] in
-      let o1 = open_push b0 s.line left a.1 o (point_goes_on s.line a.0 s.read) s.next_is in
-      line_ends value_at b1 a.1 (λ z. log_step 0 z.1 >>= λ log. Ok (Optimal a.0 z.0 log.0, log.1)) o1 (λ l. fault_here b1 l o1.open_yet) (λ z sz.
-        let b2 = b1 ++ sz.line ∷ [] in
-        let o2 = open_push b1 sz.line a.1 z.1 o1 (value_goes_on sz.line z.0 sz.read) sz.next_is in
-        ends_map (first b2 z.1) (λ (xs : List CertLine). Optimal a.0 z.0 xs) (log_step 0 z.1) (log_of_base b2 z.1 (λ log l e. fault_here (b2 ++ log) l e) o2)))
+    let b1 = b0 ++ s.line ∷ [] in
+    let o1 = open_push b0 s.line left a.1 o (point_goes_on s.line a.0 s.read) s.next_is in
+    line_ends value_at b1 a.1 (λ z. log_step 0 z.1 >>= λ log. Ok (Optimal a.0 z.0 log.0, log.1)) o1 (λ l. fault_here b1 l o1.open_yet) (λ z sz.
+    let b2 = b1 ++ sz.line ∷ [] in
+    let o2 = open_push b1 sz.line a.1 z.1 o1 (value_goes_on sz.line z.0 sz.read) sz.next_is in
+    ends_map (first b2 z.1) (λ (xs : List CertLine). Optimal a.0 z.0 xs) (log_step 0 z.1) (log_of_base b2 z.1 (λ log l e. fault_here (b2 ++ log) l e) o2)))
 
 infeasible_ends : (left : Left) → IsOpen (titles kinds.Infeasible) left → Ends (first (titles kinds.Infeasible) left) (infeasible_step left)
 unfolding infeasible_step
@@ -243,15 +246,15 @@ unfolding unbounded_step last_step
 unbounded_ends left o =
     let b0 = titles kinds.Unbounded in
     line_ends piece_at b0 left (λ piece. line_as point_at piece.1 >>= λ point. line_as ray_at point.1 >>= λ ray. line_as (end_at 0) ray.1 >>= λ last. Ok (Unbounded piece.0 point.0 ray.0, last.1)) o (λ l. refl) (λ a s.
-      let b1 = b0 ++ s.line ∷ [] in
-      let o1 = open_push b0 s.line left a.1 o (piece_goes_on s.line a.0 s.read) s.next_is in
-      line_ends point_at b1 a.1 (λ point. line_as ray_at point.1 >>= λ ray. line_as (end_at 0) ray.1 >>= λ last. Ok (Unbounded a.0 point.0 ray.0, last.1)) o1 (λ l. fault_here b1 l o1.open_yet) (λ p sp.
-        let b2 = b1 ++ sp.line ∷ [] in
-        let o2 = open_push b1 sp.line a.1 p.1 o1 (point_goes_on sp.line p.0 sp.read) sp.next_is in
-        line_ends ray_at b2 p.1 (λ ray. line_as (end_at 0) ray.1 >>= λ last. Ok (Unbounded a.0 p.0 ray.0, last.1)) o2 (λ l. fault_here b2 l o2.open_yet) (λ r sr.
-          let b3 = b2 ++ sr.line ∷ [] in
-          let o3 = open_push b2 sr.line p.1 r.1 o2 (ray_goes_on sr.line r.0 sr.read) sr.next_is in
-          line_ends (end_at 0) b3 r.1 (λ last. Ok (Unbounded a.0 p.0 r.0, last.1)) o3 (λ l. fault_here b3 l o3.open_yet) (λ k sk. ends_here (Unbounded a.0 p.0 r.0) b3 r.1 k.0 k.1 o3 sk))))
+    let b1 = b0 ++ s.line ∷ [] in
+    let o1 = open_push b0 s.line left a.1 o (piece_goes_on s.line a.0 s.read) s.next_is in
+    line_ends point_at b1 a.1 (λ point. line_as ray_at point.1 >>= λ ray. line_as (end_at 0) ray.1 >>= λ last. Ok (Unbounded a.0 point.0 ray.0, last.1)) o1 (λ l. fault_here b1 l o1.open_yet) (λ p sp.
+    let b2 = b1 ++ sp.line ∷ [] in
+    let o2 = open_push b1 sp.line a.1 p.1 o1 (point_goes_on sp.line p.0 sp.read) sp.next_is in
+    line_ends ray_at b2 p.1 (λ ray. line_as (end_at 0) ray.1 >>= λ last. Ok (Unbounded a.0 p.0 ray.0, last.1)) o2 (λ l. fault_here b2 l o2.open_yet) (λ r sr.
+    let b3 = b2 ++ sr.line ∷ [] in
+    let o3 = open_push b2 sr.line p.1 r.1 o2 (ray_goes_on sr.line r.0 sr.read) sr.next_is in
+    line_ends (end_at 0) b3 r.1 (λ last. Ok (Unbounded a.0 p.0 r.0, last.1)) o3 (λ l. fault_here b3 l o3.open_yet) (λ k sk. ends_here (Unbounded a.0 p.0 r.0) b3 r.1 k.0 k.1 o3 sk))))
 
 tail_ends : (kind : Kind) (left : Left) → IsOpen (titles kind) left → Ends (first (titles kind) left) (step_of kind left)
 tail_ends kinds.Optimal left o = optimal_ends left o
@@ -314,12 +317,12 @@ behind_head left o =
     wholly_bind (first b left) (kind_step left) (λ kind. step_of kind.0 kind.1 >>= λ cert. behind_end cert.1 >>= λ _. Ok cert.0)
     (λ x e. step_fails kind_in b left x o kind_judged (sym (kind_steps left) ∙ e))
     (λ k e.
-      let s = kind_stepped left k e in
-      let line : s.line ≡ kind_line k.0 = kind_takes s.line k.0 s.read in
-      let o1 = open_push b s.line left k.1 o (ap is_last line ∙ kind_no_last k.0) s.next_is in
-      let titled : b ++ s.line ∷ [] ≡ titles k.0 = ap (λ (l : List ℕ). b ++ l ∷ []) line in
-      wholly_from (first b left) (first (titles k.0) k.1) _ (step_goes_on kind_in b left k.0 k.1 kind_judged s ∙ ap (λ (t : Lines). first t k.1) titled)
-      (behind_tail (first (titles k.0) k.1) (step_of k.0 k.1) (tail_ends k.0 k.1 (subst (λ (t : Lines). IsOpen t k.1) titled o1))))
+    let s = kind_stepped left k e in
+    let line : s.line ≡ kind_line k.0 = kind_takes s.line k.0 s.read in
+    let o1 = open_push b s.line left k.1 o (ap is_last line ∙ kind_no_last k.0) s.next_is in
+    let titled : b ++ s.line ∷ [] ≡ titles k.0 = ap (λ (l : List ℕ). b ++ l ∷ []) line in
+    wholly_from (first b left) (first (titles k.0) k.1) _ (step_goes_on kind_in b left k.0 k.1 kind_judged s ∙ ap (λ (t : Lines). first t k.1) titled)
+    (behind_tail (first (titles k.0) k.1) (step_of k.0 k.1) (tail_ends k.0 k.1 (subst (λ (t : Lines). IsOpen t k.1) titled o1))))
 
 head_by : (left : Left) (ls : Lines) (x : Fault) (cut : Bool) → left.cut ≡ cut → left.taken ≡ 0 → head_of left ls ≡ Err x → first_fault cut [] ls ≡ fault_is x
 head_by left [] x true ec z e = ap (λ (n : ℕ). fault_is (n + 1, NotEnded)) (sym z) ∙ ap (λ (t : Bool). fault_is (left.taken + 1, cond t NotEnded BadHead)) (sym ec) ∙ ap fault_is (same_err (left.taken + 1, cond left.cut NotEnded BadHead) x e)
@@ -348,7 +351,7 @@ cert_wholly left z =
     wholly_bind (first [] left) (head_step left) (λ head. kind_step head >>= λ kind. step_of kind.0 kind.1 >>= λ cert. behind_end cert.1 >>= λ _. Ok cert.0)
     (λ x e. head_fails left x z e)
     (λ next e.
-      let h = head_takes left next e in
-      let number = ap (λ (k : Left). k.taken) h.1 in
-      wholly_from (first [] left) (first (head_line ∷ []) next) _ (head_goes_on left next h.0 h.1)
-      (behind_head next (record { open_yet = refl; some = omega arith; number = omega (arith, number, z) })))
+    let h = head_takes left next e in
+    let number = ap (λ (k : Left). k.taken) h.1 in
+    wholly_from (first [] left) (first (head_line ∷ []) next) _ (head_goes_on left next h.0 h.1)
+    (behind_head next (record { open_yet = refl; some = omega arith; number = omega (arith, number, z) })))

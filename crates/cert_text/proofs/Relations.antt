@@ -64,6 +64,7 @@ same_fault m n v w e = let p = pair_same (m, v) (n, w) e in (ap (λ (x : ℕ × 
   where
     some_of : ℕ × CertWhy → Option (ℕ × CertWhy)
     some_of x = Some x
+
     pair_same : (x y : ℕ × CertWhy) → some_of x ≡ some_of y → x ≡ y
     pair_same x y e = cc
 
@@ -71,9 +72,11 @@ at_end : (before : Lines) (cut : Bool) (n : ℕ) (w : CertWhy) (o : Option CertW
 at_end before cut n w None e h = absurd cc
 at_end before cut n w (Some v) e h =
     let same = same_fault (length before + 1) n v w h in
-    inr (tt,
+    inr (
+      tt,
       ap (λ (b : Lines). end_fault b cut) (append-nil before) ∙ e ∙ ap (λ (x : CertWhy). Some x) same.1,
-      sym same.0 ∙ ap (λ (b : Lines). length b + 1) (sym (append-nil before)))
+      sym same.0 ∙ ap (λ (b : Lines). length b + 1) (sym (append-nil before)),
+    )
 
 more : (before ls : Lines) (l : List ℕ) (cut : Bool) (n : ℕ) (w : CertWhy) → fault_of before l ≡ None → FailsFrom (before ++ l ∷ []) ls cut n w → FailsFrom before (l ∷ ls) cut n w
 more before ls l cut n w e (inl f) = inl (record {

@@ -36,8 +36,10 @@ side_takes letter s e = elim (either (eqb letter 97) (Some A) (cond (eqb letter 
   where
     some : Side → Option Side
     some s = Some s
+
     same_side : (s t : Side) → Some s ≡ some t → s ≡ t
     same_side s t e = cc
+
     none_apart : (s : Side) → None ≡ some s → ⊥
     none_apart s e = absurd cc
 
@@ -206,12 +208,14 @@ terms_again least (t ∷ ts) h a =
 
 pub row_takes : (ws : List Word) (ts : List Term) → terms_from 0 ws ≡ Ok ts → (ws ≡ flat_map term_words ts) × AreTerms ts
 row_takes ws ts e =
-    let t = terms_take 0 ws ts e in
-    (t.words, record {
-      ascending = t.ascend.1;
-      numbers = All-weaker IsTerm (λ x. x.0 < 2 ^ 32 - 1) (λ x h. h.0) ts t.each;
-      narrow = All-weaker IsTerm (λ x. IsNarrow x.1 × (x.1 ≢ pos 0)) (λ x h. h.1) ts t.each;
-    })
+    let t = terms_take 0 ws ts e in (
+      t.words,
+      record {
+        ascending = t.ascend.1;
+        numbers = All-weaker IsTerm (λ x. x.0 < 2 ^ 32 - 1) (λ x h. h.0) ts t.each;
+        narrow = All-weaker IsTerm (λ x. IsNarrow x.1 × (x.1 ≢ pos 0)) (λ x h. h.1) ts t.each;
+      },
+    )
 
 pub row_again : (ts : List Term) → AreTerms ts → terms_from 0 (flat_map term_words ts) ≡ Ok ts
 row_again ts h = terms_again 0 ts (λ i d lt. (h.numbers i d lt, h.narrow i d lt)) (ascend_from_zero number_of ts h.ascending)

@@ -118,7 +118,12 @@ fn push_ray_cut(out: &mut Vec<u8>, ng: &NoGood, terms: &[(u32, i64)]) -> Result<
     push_last_terms(out, terms)
 }
 
-fn push_point_cut(out: &mut Vec<u8>, ng: &NoGood, e: i64, terms: &[(u32, i64)]) -> Result<(), AllocError>
+fn push_point_cut(
+    out: &mut Vec<u8>,
+    ng: &NoGood,
+    e: i64,
+    terms: &[(u32, i64)],
+) -> Result<(), AllocError>
     ensures { OnOk result (out.new.items ≡ out.old.items ++ text_line (line_words (Point ng.now e terms.now))) }
 {
     push_front(out, b"p", ng)?;
@@ -207,7 +212,12 @@ fn push_kind(out: &mut Vec<u8>, kind: &[u8]) -> Result<(), AllocError>
 
 // ---- certificates
 
-fn push_optimal(out: &mut Vec<u8>, point: &CertPoint, z: i128, lines: &[CertLine]) -> Result<(), AllocError>
+fn push_optimal(
+    out: &mut Vec<u8>,
+    point: &CertPoint,
+    z: i128,
+    lines: &[CertLine],
+) -> Result<(), AllocError>
     ensures { OnOk result (out.new.items ≡ out.old.items ++ spelling (Optimal point.now z lines.now)) }
 {
     push_kind(out, b"optimal")?;
@@ -223,7 +233,12 @@ fn push_infeasible(out: &mut Vec<u8>, lines: &[CertLine]) -> Result<(), AllocErr
     push_log(out, lines)
 }
 
-fn push_unbounded(out: &mut Vec<u8>, piece: &NoGood, point: &CertPoint, ray: &[(u32, i64)]) -> Result<(), AllocError>
+fn push_unbounded(
+    out: &mut Vec<u8>,
+    piece: &NoGood,
+    point: &CertPoint,
+    ray: &[(u32, i64)],
+) -> Result<(), AllocError>
     ensures { OnOk result (out.new.items ≡ out.old.items ++ spelling (Unbounded piece.now point.now ray.now)) }
 {
     push_kind(out, b"unbounded")?;
