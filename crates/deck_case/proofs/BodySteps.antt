@@ -1,9 +1,9 @@
 -- One more row of a deck.
-use Rattle.std.proofs.Common.{ℕ, ◌+◌, ◌<◌, ◌≤◌, ◌≡◌, ◌≢◌, refl, sym, ap, subst, ◌∙◌, inl, inr, arith, List, [], ◌∷◌, ◌++◌, length, get_or, take, Some, slice_get}
+use Rattle.std.proofs.Common.{ℕ, ◌+◌, ◌<◌, ◌≤◌, ◌≡◌, ◌≢◌, sym, ap, subst, ◌∙◌, inl, inr, arith, List, [], ◌++◌, length, get_or, take, Some, slice_get}
 use Rattle.std.specs.List.{enumerate_from}
 use Rattle.std.proofs.lemmas.Bool.{cases_eq}
 use Rattle.std.proofs.lemmas.List.FromFn.{get_or-enumerate_from, length-enumerate_from}
-use Rattle.std.proofs.lemmas.Option.{slice_get_within, slice_get-get_or, get_or_from_slice_get, same_Some}
+use Rattle.std.proofs.lemmas.Option.{slice_get-get_or, get_or_from_slice_get, same_Some}
 use Rattle.lpcc_case.specs.declared.constraint.Constraint.{Constraint}
 use Rattle.mps_pairs.specs.Decks.{IsDeck, entries_of}
 use Rattle.mps_pairs.specs.declared.deck.Deck.{Deck}
@@ -13,7 +13,7 @@ use Rattle.mps_pairs.specs.declared.deck.Letter.TheVariants.{N}
 use Rattle.mps_pairs.specs.declared.deck.Row.{Row}
 use Rattle.deck_case.specs.declared.fault.CaseFault.{CaseFault}
 use Rattle.deck_case.specs.CaseParts.{constraints_of_row, constraints_of_rows, row_constraints}
-use Rattle.deck_case.specs.DeckCases.{before_row, row_at, no_row}
+use Rattle.deck_case.specs.DeckCases.{row_at, no_row}
 use Rattle.deck_case.specs.Faults.{IsFirstOf}
 use Rattle.deck_case.specs.Wide.{wide_row, wide_rows}
 use Rattle.deck_case.proofs.Numbered.{first_here, none_all, none_more, numbered_all, numbered_more}

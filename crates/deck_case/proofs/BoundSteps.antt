@@ -1,5 +1,5 @@
 -- The constraints of a column.
-use Rattle.std.proofs.Common.{ℕ, ◌^◌, ◌<◌, ◌≤◌, ◌≡◌, refl, sym, ap, subst, ◌∙◌, inl, inr, arith, ℤ, pos, neg_ℤ, ◌-ℤ◌, to_z, of_z, List, [], ◌∷◌, ◌++◌, Bool, true, false, ◌||◌, ◌+◌, Option, Some, append_assoc, length, get_or, take}
+use Rattle.std.proofs.Common.{ℕ, ◌^◌, ◌<◌, ◌≤◌, ◌≡◌, sym, ap, ◌∙◌, inl, inr, arith, ℤ, pos, neg_ℤ, ◌-ℤ◌, to_z, of_z, List, [], ◌∷◌, ◌++◌, false, ◌+◌, Option, Some, append_assoc, length, get_or, take}
 use mir.Syntax.{w64}
 use Rattle.std.specs.Prelude.{unsigned_abs}
 use Rattle.std.specs.List.{enumerate_from}

@@ -1,8 +1,8 @@
 -- The case of a deck in which nothing is too wide keeps the limits of a case.
-use Rattle.std.proofs.Common.{ℕ, zero, suc, ◌+◌, ◌<◌, ◌≤◌, ◌≡◌, ◌≢◌, ◌^◌, refl, sym, ap, subst, ◌∙◌, inl, inr, arith, ℤ, pos, neg_ℤ, ◌≤ℤ◌, List, [], ◌∷◌, ◌++◌, Bool, true, false, ◌||◌, cond, length, get_or, map, Option, None, Some, All, slice_get}
+use Rattle.std.proofs.Common.{ℕ, ◌+◌, ◌<◌, ◌≤◌, ◌≡◌, ◌≢◌, refl, sym, ap, subst, ◌∙◌, inl, inr, arith, ℤ, pos, neg_ℤ, ◌≤ℤ◌, List, [], ◌∷◌, ◌++◌, Bool, true, false, ◌||◌, cond, length, get_or, map, Option, None, Some, All, slice_get}
 use Rattle.std.specs.Prelude.{IsTrue, IfSome, unsigned_abs}
-use Rattle.std.specs.List.{enumerate_from, flat_map, list_any, range_with_len}
-use Rattle.std.specs.Option.{option_map, option_to_list}
+use Rattle.std.specs.List.{enumerate_from, flat_map, range_with_len}
+use Rattle.std.specs.Option.{option_map}
 use Rattle.std.proofs.lemmas.Bool.{cases_Bool}
 use Rattle.std.proofs.lemmas.Int.{ints}
 use Rattle.std.proofs.lemmas.List.{get_or-map, length-map}
@@ -14,7 +14,7 @@ use Rattle.lp_nums.specs.Fractions.{Fraction}
 use Rattle.lpcc_case.specs.declared.constraint.Constraint.{Constraint}
 use Rattle.lpcc_case.specs.Cases.{IsCase, IsConstraint, FitsCase, NamesInequality, instance_of, column_of}
 use Rattle.lpcc_case.specs.Points.{coefficient}
-use Rattle.mps_pairs.specs.Decks.{IsDeck, IsDeckNumber, IsColumn, entries_of, entry_column}
+use Rattle.mps_pairs.specs.Decks.{IsDeck, IsDeckNumber, IsColumn, entries_of}
 use Rattle.mps_pairs.specs.declared.deck.Bound.{Bound}
 use Rattle.mps_pairs.specs.declared.deck.Column.{Column}
 use Rattle.mps_pairs.specs.declared.deck.Deck.{Deck}
@@ -23,12 +23,11 @@ use Rattle.mps_pairs.specs.declared.deck.Letter.{Letter}
 use Rattle.mps_pairs.specs.declared.deck.Letter.TheVariants.{N, E, L, G}
 use Rattle.mps_pairs.specs.declared.deck.Row.{Row}
 use Rattle.deck_case.specs.CaseParts.{Terms, at_least, at_most, between_ends, coefficients, column_constraints, constraints_of, constraints_of_column, constraints_of_row, cost_of, cost_terms, equal_to, fixed_at, for_bound, is_equation, lower_bound, negated, numbers_of, offset_of, row_constraints, row_multiplier, scale_of, terms_of, upper_bound}
-use Rattle.deck_case.specs.DeckCases.{case_of_deck, pair_of, row_at, side_number}
-use Rattle.deck_case.specs.Multipliers.{multiplier, times}
+use Rattle.deck_case.specs.DeckCases.{case_of_deck, pair_of, row_at}
+use Rattle.deck_case.specs.Multipliers.{times}
 use Rattle.deck_case.specs.Sides.{sides}
-use Rattle.deck_case.specs.Wide.{IsClearedBy, has_wide, is_wide, judged_numbers, named, whole_numbers, wide_bound, wide_column, wide_lines, wide_row, wide_rows}
+use Rattle.deck_case.specs.Wide.{has_wide, is_wide, judged_numbers, named, whole_numbers, wide_bound, wide_column, wide_lines, wide_row, wide_rows}
 use Rattle.deck_case.proofs.BodySteps.{row_at_is}
-use Rattle.deck_case.proofs.BoundSteps.{bound_narrow}
 use Rattle.deck_case.proofs.CostSteps.{coefficient_keeps}
 use Rattle.deck_case.proofs.Places.{side_named}
 use Rattle.deck_case.proofs.Rising.{ascends-map}
@@ -296,10 +295,10 @@ pub is_case_of_parts : (d : Deck) (n : ℕ) (cost : List ℤ) (scale offset : �
 is_case_of_parts d n cost scale offset constraints pairs h none few en ec es eo er ep =
     let target = is_case d h none (omega (arith, few, ap length er)) in
     let same : case_of_deck d ≡ instance_of n cost scale offset constraints pairs =
-      ap (λ x. instance_of x (cost_of (length d.columns) (entries_of d.entries d.objective) (row_at d d.objective)) (pos (scale_of (entries_of d.entries d.objective) (row_at d d.objective))) (offset_of (entries_of d.entries d.objective) (row_at d d.objective)) (constraints_of d) (map (pair_of d) d.pairs)) (sym en)
-      ∙ ap (λ x. instance_of n x (pos (scale_of (entries_of d.entries d.objective) (row_at d d.objective))) (offset_of (entries_of d.entries d.objective) (row_at d d.objective)) (constraints_of d) (map (pair_of d) d.pairs)) (sym ec)
-      ∙ ap (λ x. instance_of n cost x (offset_of (entries_of d.entries d.objective) (row_at d d.objective)) (constraints_of d) (map (pair_of d) d.pairs)) (sym es)
-      ∙ ap (λ x. instance_of n cost scale x (constraints_of d) (map (pair_of d) d.pairs)) (sym eo)
-      ∙ ap (λ x. instance_of n cost scale offset x (map (pair_of d) d.pairs)) (sym er)
-      ∙ ap (λ x. instance_of n cost scale offset constraints x) (sym ep) in
+    ap (λ x. instance_of x (cost_of (length d.columns) (entries_of d.entries d.objective) (row_at d d.objective)) (pos (scale_of (entries_of d.entries d.objective) (row_at d d.objective))) (offset_of (entries_of d.entries d.objective) (row_at d d.objective)) (constraints_of d) (map (pair_of d) d.pairs)) (sym en)
+    ∙ ap (λ x. instance_of n x (pos (scale_of (entries_of d.entries d.objective) (row_at d d.objective))) (offset_of (entries_of d.entries d.objective) (row_at d d.objective)) (constraints_of d) (map (pair_of d) d.pairs)) (sym ec)
+    ∙ ap (λ x. instance_of n cost x (offset_of (entries_of d.entries d.objective) (row_at d d.objective)) (constraints_of d) (map (pair_of d) d.pairs)) (sym es)
+    ∙ ap (λ x. instance_of n cost scale x (constraints_of d) (map (pair_of d) d.pairs)) (sym eo)
+    ∙ ap (λ x. instance_of n cost scale offset x (map (pair_of d) d.pairs)) (sym er)
+    ∙ ap (λ x. instance_of n cost scale offset constraints x) (sym ep) in
     subst IsCase same target

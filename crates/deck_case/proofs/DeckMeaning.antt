@@ -1,22 +1,21 @@
 -- The case of a deck means the deck.
-use Rattle.std.proofs.Common.{ℕ, zero, suc, ◌+◌, ◌*◌, ◌<◌, ◌≤◌, ◌≡◌, ◌≢◌, refl, sym, ap, subst, ◌∙◌, inl, inr, arith, ℤ, pos, neg_ℤ, ◌+ℤ◌, ◌-ℤ◌, ◌*ℤ◌, ◌≤ℤ◌, List, [], ◌∷◌, ◌++◌, Bool, true, false, cond, length, get_or, map, Option, None, Some, All, slice_get}
-use Rattle.std.specs.Prelude.{◌↔◌, ◌⊎◌, IfSome}
-use Rattle.std.specs.List.{enumerate_from, flat_map, range_with_len, AllByRecursion}
+use Rattle.std.proofs.Common.{ℕ, ◌<◌, ◌≡◌, refl, sym, subst, arith, ℤ, pos, ◌+ℤ◌, ◌*ℤ◌, ◌≤ℤ◌, List, [], ◌∷◌, length, get_or, map, None, Some, All, slice_get}
+use Rattle.std.specs.Prelude.{◌↔◌}
+use Rattle.std.specs.List.{AllByRecursion}
 use Rattle.std.proofs.lemmas.Int.{ints}
-use Rattle.std.proofs.lemmas.List.Elements.{All-nil, All-cons, All-head, All-tail, All-append, All-map, recursion_from_All}
-use Rattle.lp_base.proofs.Ring.{mul_add_right, mul_assoc, mul_comm}
+use Rattle.std.proofs.lemmas.List.Elements.{recursion_from_All}
 use Rattle.lp_nums.specs.Fractions.{Fraction, SameValue}
-use Rattle.lpcc_case.specs.Points.{Point, IsFeasible, IsTight, Meets, cost_at, left_side}
+use Rattle.lpcc_case.specs.Points.{Point, cost_at, left_side}
 use Rattle.lpcc_case.specs.Verdicts.{HasValue}
 use Rattle.mps_pairs.specs.Decks.{IsDeck, entries_of}
 use Rattle.mps_pairs.specs.declared.deck.Deck.{Deck}
 use Rattle.mps_pairs.specs.declared.deck.Entry.{Entry}
 use Rattle.mps_pairs.specs.declared.deck.Row.{Row}
-use Rattle.deck_case.specs.CaseParts.{cost_terms, numbers_of, offset_of, scale_of, terms_of}
+use Rattle.deck_case.specs.CaseParts.{cost_terms, offset_of, scale_of, terms_of}
 use Rattle.deck_case.specs.DeckCases.{case_of_deck, row_at}
-use Rattle.deck_case.specs.DeckPoints.{IsWithin, IsZeroAt, MeetsDeck, column_value, objective_value, row_value}
-use Rattle.deck_case.specs.Multipliers.{multiplier, times}
-use Rattle.deck_case.specs.Rationals.{minus, negative, plus, product, total}
+use Rattle.deck_case.specs.DeckPoints.{column_value, objective_value, row_value}
+use Rattle.deck_case.specs.Multipliers.{times}
+use Rattle.deck_case.specs.Rationals.{minus, negative, product, total}
 use Rattle.deck_case.specs.Wide.{IsClearedBy}
 use Rattle.deck_case.proofs.BodySteps.{row_at_is}
 use Rattle.deck_case.proofs.CaseFacts.{objective_numbers}

@@ -1,5 +1,5 @@
 -- A deck has a case or a fault of its case.
-use Rattle.std.proofs.Common.{ℕ, ◌<◌, ◌≤◌, ◌≡◌, refl, ap, inl, inr, arith, List, [], ◌∷◌, length, slice_get}
+use Rattle.std.proofs.Common.{ℕ, ◌≡◌, refl, ap, inl, inr, List, [], ◌∷◌, length, slice_get}
 use Rattle.std.specs.Prelude.{◌⊎◌}
 use Rattle.std.proofs.lemmas.Bool.{cases_lt}
 use Rattle.lpcc_case.specs.Instance.{Instance}

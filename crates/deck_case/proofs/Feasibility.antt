@@ -1,5 +1,5 @@
 -- The points that are feasible for the case are those that the deck allows.
-use Rattle.std.proofs.Common.{ℕ, zero, suc, ◌+◌, ◌*◌, ◌<◌, ◌≤◌, ◌≡◌, ◌≢◌, refl, sym, ap, subst, ◌∙◌, inl, inr, arith, ℤ, pos, neg_ℤ, ◌+ℤ◌, ◌*ℤ◌, ◌≤ℤ◌, List, [], ◌∷◌, ◌++◌, Bool, true, false, cond, length, get_or, map, Option, None, Some, All, slice_get}
+use Rattle.std.proofs.Common.{ℕ, zero, suc, ◌<◌, ◌≡◌, refl, sym, ap, subst, ◌∙◌, inl, inr, arith, ℤ, pos, neg_ℤ, ◌*ℤ◌, ◌≤ℤ◌, List, [], ◌∷◌, ◌++◌, Bool, true, false, cond, length, get_or, map, Option, None, Some, All, slice_get}
 use Rattle.std.specs.Prelude.{◌↔◌, ◌⊎◌, IfSome}
 use Rattle.std.specs.List.{enumerate_from, flat_map}
 use Rattle.std.specs.Option.{option_map, option_to_list}
@@ -30,14 +30,14 @@ use Rattle.deck_case.specs.DeckCases.{case_of_deck, pair_of, side_number}
 use Rattle.deck_case.specs.DeckPoints.{IsWithin, IsZeroAt, MeetsDeck, column_value, row_value}
 use Rattle.deck_case.specs.Multipliers.{times}
 use Rattle.deck_case.specs.Rationals.{IsAtMost, minus, plus, size, total}
-use Rattle.deck_case.specs.Sides.{Sides, between, reaches_down, sides}
+use Rattle.deck_case.specs.Sides.{between, reaches_down, sides}
 use Rattle.deck_case.specs.Wide.{IsClearedBy}
 use Rattle.deck_case.proofs.BodySteps.{letter_of_objective}
 use Rattle.deck_case.proofs.CaseFacts.{All-flat_map, numbered_at}
 use Rattle.deck_case.proofs.DeckMeaning.{IsRowSum, row_sum, values_at}
 use Rattle.deck_case.proofs.MultiplierSteps.{All-left, All-right}
 use Rattle.deck_case.proofs.Places.{column_side_at, row_side_at, side_of, side_row}
-use Rattle.deck_case.proofs.RationalLaws.{IsOver, IsWhole, at_most_iff, over_whole, same_iff, whole_above, whole_below, whole_cleared}
+use Rattle.deck_case.proofs.RationalLaws.{IsWhole, at_most_iff, over_whole, same_iff, whole_above, whole_below, whole_cleared}
 use Rattle.deck_case.proofs.RowSteps.{entries_cleared, made_of, range_cleared, rhs_cleared, row_positive}
 use Rattle.deck_case.proofs.SideSteps.{negated_product}
 use Rattle.deck_case.proofs.TermFacts.{row_numbers}

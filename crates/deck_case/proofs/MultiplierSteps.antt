@@ -2,15 +2,15 @@
 use Rattle.std.proofs.Common.{ℕ, ◌+◌, ◌<◌, ◌≤◌, ◌^◌, ◌≡◌, refl, sym, ap, subst, ◌∙◌, arith, pos, ◌≤ℤ◌, List, [], ◌∷◌, ◌++◌, append_assoc, All, Option, None, Some, length, get_or, map, take, drop}
 use Rattle.std.specs.Prelude.{IfSome, unsigned_abs}
 use Rattle.std.specs.Option.{option_to_list}
-use Rattle.std.proofs.lemmas.List.{append-nil, get_or_append_left, get_or-append-add, get_or-map, length-append, length-map, map-append, map_more, take-append-drop}
-use Rattle.std.proofs.lemmas.List.Elements.{All-head, All-nil, All-tail, All-weaker}
+use Rattle.std.proofs.lemmas.List.{get_or_append_left, get_or-append-add, get_or-map, length-append, length-map, map-append, map_more, take-append-drop}
+use Rattle.std.proofs.lemmas.List.Elements.{All-head, All-tail, All-weaker}
 use Rattle.lp_nums.specs.Fractions.{Fraction}
 use Rattle.mps_pairs.specs.Decks.{IsDeckNumber}
 use Rattle.mps_pairs.specs.declared.deck.Entry.{Entry}
 use Rattle.deck_case.specs.CaseParts.{numbers_of}
 use Rattle.deck_case.specs.Multipliers.{ArePositive, multiplier}
 use Rattle.deck_case.specs.Wide.{IsNarrowMultiplier}
-use Rattle.deck_case.proofs.Multiples.{IsCommon, common_of, multiplier_grows}
+use Rattle.deck_case.proofs.Multiples.{common_of, multiplier_grows}
 
 -- ---- parts of lists
 

@@ -1,18 +1,16 @@
 -- The numbers of the sides of pairs, as the code reads them.
-use Rattle.std.proofs.Common.{ℕ, ◌+◌, ◌<◌, ◌≤◌, ◌≡◌, refl, sym, ap, subst, ◌∙◌, arith, List, [], ◌∷◌, ◌++◌, length, get_or, map, take, Some}
+use Rattle.std.proofs.Common.{ℕ, ◌+◌, ◌<◌, ◌≡◌, sym, ap, subst, ◌∙◌, arith, List, [], ◌∷◌, ◌++◌, length, get_or, map, take}
 use Rattle.std.specs.List.{range_with_len}
 use Rattle.std.proofs.lemmas.List.{map_more, get_or_default}
 use Rattle.std.proofs.lemmas.List.FromFn.{get_or-map-range_with_len, length-map-range_with_len}
 use Rattle.std.proofs.lemmas.Option.{slice_get_within}
-use Rattle.mps_pairs.specs.Decks.{IsDeck, NamesQuantity}
+use Rattle.mps_pairs.specs.Decks.{NamesQuantity}
 use Rattle.mps_pairs.specs.declared.deck.Deck.{Deck}
 use Rattle.mps_pairs.specs.declared.deck.PairLine.{PairLine}
 use Rattle.mps_pairs.specs.declared.deck.Quantity.{Quantity}
 use Rattle.mps_pairs.specs.declared.deck.Quantity.TheVariants.{Col, Row}
 use Rattle.mps_pairs.specs.declared.deck.Row as rows
-use Rattle.deck_case.specs.CaseParts.{constraints_of}
 use Rattle.deck_case.specs.DeckCases.{before_column, before_row, no_row, pair_of, row_at, side_number, side_place}
-use Rattle.deck_case.proofs.Places.{side_within}
 
 pub named_column : (d : Deck) (q : Quantity) (j : ℕ) → NamesQuantity d q → q ≡ Col j → j < length d.columns
 named_column d q j h e =

@@ -1,9 +1,8 @@
 -- Where the constraints of a row and of a column stand.
-use Rattle.std.proofs.Common.{ℕ, zero, suc, ◌+◌, ◌<◌, ◌≤◌, ◌≡◌, ◌≢◌, refl, sym, ap, subst, ◌∙◌, arith, ℤ, pos, List, [], ◌∷◌, ◌++◌, append_assoc, Bool, true, false, cond, length, get_or, map, take, drop, Option, None, Some, slice_get}
+use Rattle.std.proofs.Common.{ℕ, zero, suc, ◌+◌, ◌<◌, ◌≡◌, refl, ap, ◌∙◌, arith, ℤ, List, [], ◌∷◌, ◌++◌, append_assoc, Bool, true, false, cond, length, get_or, take, drop, Option, None, Some, slice_get}
 use Rattle.std.specs.Prelude.{◌&&◌, is_some}
 use Rattle.std.specs.List.{enumerate_from, flat_map}
 use Rattle.std.proofs.lemmas.List.{get_or-append-add, length-append}
-use Rattle.std.proofs.lemmas.List.FromFn.{length-enumerate_from}
 use Rattle.std.proofs.lemmas.Option.{slice_get_within, slice_get-get_or, get_or_from_slice_get}
 use Rattle.lp_nums.specs.Fractions.{Fraction}
 use Rattle.lpcc_case.specs.declared.constraint.Constraint.{Constraint}
@@ -19,8 +18,8 @@ use Rattle.mps_pairs.specs.declared.deck.Letter.TheVariants.{N, E, L, G}
 use Rattle.mps_pairs.specs.declared.deck.Quantity.{Quantity}
 use Rattle.mps_pairs.specs.declared.deck.Quantity.TheVariants.{Col, Row}
 use Rattle.mps_pairs.specs.declared.deck.Row as rows
-use Rattle.deck_case.specs.CaseParts.{Terms, at_least, at_most, column_constraints, constraints_of, constraints_of_column, constraints_of_columns, constraints_of_row, constraints_of_rows, fixed_at, for_bound, lower_bound, upper_bound, row_constraints, row_multiplier, terms_of}
-use Rattle.deck_case.specs.DeckCases.{before_column, before_row, is_upper, row_at, side_number, side_place}
+use Rattle.deck_case.specs.CaseParts.{Terms, at_least, at_most, column_constraints, constraints_of, constraints_of_column, constraints_of_columns, constraints_of_row, fixed_at, for_bound, lower_bound, upper_bound, row_constraints, row_multiplier, terms_of}
+use Rattle.deck_case.specs.DeckCases.{before_row, is_upper, row_at, side_number, side_place}
 use Rattle.deck_case.specs.Multipliers.{times}
 use Rattle.deck_case.proofs.BodySteps.{row_at_is}
 use Rattle.deck_case.proofs.Numbered.{flat-split, numbered_more}

@@ -1,6 +1,6 @@
 -- Fractions as whole numbers over a common multiplier.
-use Rattle.std.proofs.Common.{ℕ, ◌<◌, ◌≡◌, refl, sym, ap, subst, ◌∙◌, inl, inr, arith, ℤ, pos, negsuc, neg_ℤ, ◌+ℤ◌, ◌-ℤ◌, ◌*ℤ◌, ◌≤ℤ◌, Option, None, Some}
-use Rattle.std.specs.Prelude.{◌↔◌, IfSome, unsigned_abs}
+use Rattle.std.proofs.Common.{ℕ, ◌<◌, ◌≡◌, sym, ap, subst, ◌∙◌, arith, ℤ, pos, ◌+ℤ◌, ◌*ℤ◌, ◌≤ℤ◌}
+use Rattle.std.specs.Prelude.{◌↔◌, unsigned_abs}
 use Rattle.std.proofs.Math.IntN.{zero-*ℤ}
 use Rattle.std.proofs.lemmas.Int.{ints}
 use Rattle.lp_base.proofs.Ring.{le_of_mul_right, mul_add_right, mul_assoc, mul_cancel_right, mul_comm, mul_le_right, mul_shuffle, mul_swap}
@@ -8,7 +8,7 @@ use Rattle.lp_nums.specs.Fractions.{Fraction, SameValue}
 use Rattle.deck_case.specs.Multipliers.{times}
 use Rattle.deck_case.specs.Rationals.{IsAtMost, minus, negative, plus, product, size}
 use Rattle.deck_case.specs.Wide.{IsClearedBy}
-use Rattle.deck_case.proofs.SideSteps.{cross, positive_product, times_negative, times_plus, times_size_of}
+use Rattle.deck_case.proofs.SideSteps.{cross, positive_product, times_plus}
 use Rattle.deck_case.proofs.Wholes.{positive_den, times_whole}
 
 -- ---- factors above 0
@@ -94,7 +94,7 @@ whole_above m b r p q =
     record {
       positive = positive_product b.den r.den p.positive q.positive;
       exact = ap (λ z. z *ℤ (b.den *ℤ r.den)) (times_plus m b (size r) p cleared)
-      ∙ cross (times m b) (times m (size r)) b.den r.den b.num (size r).num (pos m) (times_whole m b p.positive p.divides) (times_whole m (size r) q.positive q.divides);
+          ∙ cross (times m b) (times m (size r)) b.den r.den b.num (size r).num (pos m) (times_whole m b p.positive p.divides) (times_whole m (size r) q.positive q.divides);
     }
 
 pub whole_below : (m : ℕ) (b r : Fraction) → IsClearedBy m b → IsClearedBy m r → IsWhole m (minus b (size r))
@@ -104,7 +104,7 @@ whole_below m b r p q =
     record {
       positive = positive_product b.den r.den p.positive q.positive;
       exact = ap (λ z. z *ℤ (b.den *ℤ r.den)) (times_plus m b s p cleared)
-      ∙ cross (times m b) (times m s) b.den r.den b.num s.num (pos m) (times_whole m b p.positive p.divides) (times_whole m s q.positive q.divides);
+          ∙ cross (times m b) (times m s) b.den r.den b.num s.num (pos m) (times_whole m b p.positive p.divides) (times_whole m s q.positive q.divides);
     }
 
 -- over m times a further denominator d

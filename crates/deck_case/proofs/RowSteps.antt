@@ -1,11 +1,11 @@
 -- The constraints of a row, and what is too wide in them.
-use Rattle.std.proofs.Common.{ℕ, ◌^◌, ◌<◌, ◌≤◌, ◌≡◌, ◌≢◌, refl, sym, ap, subst, ◌∙◌, inl, inr, arith, ℤ, pos, neg_ℤ, List, [], ◌∷◌, ◌++◌, All, Bool, true, false, ◌||◌, nat_lt, cond, length, get_or, map, Option, None, Some}
+use Rattle.std.proofs.Common.{ℕ, ◌^◌, ◌<◌, ◌≤◌, ◌≡◌, ◌≢◌, refl, sym, ap, subst, ◌∙◌, inl, inr, arith, ℤ, pos, neg_ℤ, List, [], ◌∷◌, ◌++◌, All, Bool, true, false, ◌||◌, nat_lt, cond, get_or, map, Option, None, Some}
 use Prim.Native.Nat.{◌∣◌}
 use Rattle.std.specs.Prelude.{IfSome, IfErr, Result, Ok, Err, unsigned_abs, slice_get}
 use Rattle.std.specs.Result.{IsErrAnd}
 use Rattle.std.specs.List.{flat_map, list_any}
 use Rattle.std.specs.Option.{option_map, option_to_list}
-use Rattle.std.proofs.lemmas.Bool.{cases_Bool, ltb-false, ltb-true, not-true}
+use Rattle.std.proofs.lemmas.Bool.{cases_Bool, ltb-false, ltb-true}
 use Rattle.std.proofs.lemmas.Int.{ints}
 use Rattle.std.proofs.lemmas.List.{append-nil, get_or-map, length-map}
 use Rattle.std.proofs.lemmas.List.Elements.{All-cons, All-head, All-nil, All-tail}
@@ -26,7 +26,7 @@ use Rattle.deck_case.specs.Rationals.{minus, plus, size}
 use Rattle.deck_case.specs.Wide.{IsClearedBy, IsNarrowTerm, end_numbers, has_wide, is_wide, judged_numbers, named, whole_numbers, wide_row}
 use Rattle.deck_case.proofs.MultiplierSteps.{All-left, All-right, part_some, positive_numbers}
 use Rattle.deck_case.proofs.Multiples.{each_divides}
-use Rattle.deck_case.proofs.TermSteps.{named_narrow, named_wide, or_false, or_true_left, or_true_right, wide_append}
+use Rattle.deck_case.proofs.TermSteps.{named_narrow, named_wide, or_false, or_true_right, wide_append}
 
 -- ---- what clears the numbers of a row
 

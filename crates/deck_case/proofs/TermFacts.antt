@@ -1,6 +1,5 @@
 -- The facts of the terms that a deck's entries give.
-use Rattle.std.proofs.Common.{ℕ, ◌+◌, ◌*◌, ◌<◌, ◌≤◌, ◌≡◌, ◌≢◌, refl, sym, ap, subst, ◌∙◌, inl, inr, arith, ℤ, pos, List, [], ◌∷◌, ◌++◌, length, get_or, map, filter, true, Some, None, Option, All, slice_get}
-use Prim.Native.Nat.{◌∣◌}
+use Rattle.std.proofs.Common.{ℕ, ◌<◌, ◌≡◌, ◌≢◌, ap, subst, ◌∙◌, inl, inr, arith, ℤ, pos, List, [], ◌++◌, length, get_or, map, filter, true, Some, None, Option, All, slice_get}
 use Rattle.std.specs.Prelude.{◌==◌, IsTrue, IfSome, unsigned_abs}
 use Rattle.std.specs.List.{range_with_len}
 use Rattle.std.specs.Option.{option_to_list}
@@ -11,7 +10,7 @@ use Rattle.std.proofs.lemmas.Int.{ints}
 use Rattle.std.proofs.lemmas.List.{get_or_read}
 use Rattle.std.proofs.lemmas.List.Elements.{All-nil, All-cons, All-head, All-tail, All-append, All-filter, All-map, filter_passes}
 use Rattle.std.proofs.lemmas.List.FromFn.{get_or-map-range_with_len, length-map-range_with_len}
-use Rattle.std.proofs.lemmas.Option.{slice_get_within, slice_get-get_or, get_or_from_slice_get}
+use Rattle.std.proofs.lemmas.Option.{slice_get_within, get_or_from_slice_get}
 use Rattle.lp_base.specs.Ascending.{ascends_by}
 use Rattle.lp_nums.specs.Fractions.{Fraction}
 use Rattle.lpcc_case.specs.Cases.{column_of}
@@ -22,7 +21,7 @@ use Rattle.mps_pairs.specs.declared.deck.Row.{Row}
 use Rattle.deck_case.specs.CaseParts.{is_nonzero, numbers_of, terms_of}
 use Rattle.deck_case.specs.Multipliers.{times}
 use Rattle.deck_case.specs.Wide.{IsClearedBy}
-use Rattle.deck_case.proofs.MultiplierSteps.{All-left, All-right}
+use Rattle.deck_case.proofs.MultiplierSteps.{All-right}
 use Rattle.deck_case.proofs.Rising.{ascends-filter, ascends-map}
 use Rattle.deck_case.proofs.Wholes.{times_size}
 

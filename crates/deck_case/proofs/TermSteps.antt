@@ -1,6 +1,5 @@
 -- How the terms of entries grow.
-use Rattle.std.proofs.Common.{ℕ, ◌+◌, ◌<◌, ◌≡◌, refl, sym, ap, subst, ◌∙◌, inl, inr, arith, ℤ, pos, neg_ℤ, List, [], ◌∷◌, ◌++◌, Bool, true, false, ◌||◌, not, cond, length, get_or, map, take, drop, filter, Option, None, Some}
-use Rattle.std.specs.List.{list_any}
+use Rattle.std.proofs.Common.{ℕ, ◌+◌, ◌<◌, ◌≡◌, refl, sym, ap, ◌∙◌, inl, inr, ℤ, pos, List, [], ◌∷◌, ◌++◌, Bool, true, false, ◌||◌, not, cond, length, get_or, map, take, drop, filter, None, Some}
 use Rattle.std.specs.Ordering.{int_eq}
 use Rattle.std.proofs.lemmas.Bool.{cases_Bool, cond-true, cond-false}
 use Rattle.std.proofs.lemmas.Bool.Decides.{Decides-int_eq}
@@ -86,9 +85,9 @@ term_step m es i e d made new z l same nonzero so_far small found pushed =
     let is = narrow_some (times m e.value) z (sym found) in
     let nonzero' : (get_or es i d).value.num ≡ pos 0 → ⊥ = λ h. nonzero (ap (λ (x : Entry). x.value.num) same ∙ h) in
     let one : made ++ (e.column, z) ∷ [] ≡ terms_of m (take i es) ++ ((get_or es i d).column, times m (get_or es i d).value) ∷ [] =
-      ap (λ l. l ++ (e.column, z) ∷ []) so_far
-      ∙ ap (λ v. terms_of m (take i es) ++ (e.column, v) ∷ []) is.0
-      ∙ ap (λ (x : Entry). terms_of m (take i es) ++ (x.column, times m x.value) ∷ []) same in (
+    ap (λ l. l ++ (e.column, z) ∷ []) so_far
+    ∙ ap (λ v. terms_of m (take i es) ++ (e.column, v) ∷ []) is.0
+    ∙ ap (λ (x : Entry). terms_of m (take i es) ++ (x.column, times m x.value) ∷ []) same in (
       pushed ∙ one ∙ sym (terms_pushed m es i d l nonzero'),
       ap (λ t. has_wide (coefficients t)) pushed ∙ wide_behind made e.column z ∙ or_false (has_wide (coefficients made)) (has_wide (z ∷ [])) small (or_false (is_wide z) false (ap is_wide is.0 ∙ is.1) refl),
     )
@@ -103,9 +102,9 @@ term_wide m es i e d l same nonzero none =
     let front = terms_of m (take i es) in
     let wide : is_wide z ≡ true = narrow_none z (ap (λ (x : Entry). narrow (times m x.value)) (sym same) ∙ sym none) in
     let part : has_wide (coefficients (terms_of m (take (i + 1) es))) ≡ true =
-      ap (λ t. has_wide (coefficients t)) (terms_pushed m es i d l nonzero')
-      ∙ wide_behind front (get_or es i d).column z
-      ∙ or_true_right (has_wide (coefficients front)) (has_wide (z ∷ [])) (or_true_left (is_wide z) false wide) in
+    ap (λ t. has_wide (coefficients t)) (terms_pushed m es i d l nonzero')
+    ∙ wide_behind front (get_or es i d).column z
+    ∙ or_true_right (has_wide (coefficients front)) (has_wide (z ∷ [])) (or_true_left (is_wide z) false wide) in
     let split : terms_of m es ≡ terms_of m (take (i + 1) es) ++ terms_of m (drop (i + 1) es) = ap (terms_of m) (sym (take-append-drop (i + 1) es)) ∙ terms_of-append m (take (i + 1) es) (drop (i + 1) es) in
     ap (λ t. has_wide (coefficients t)) split
     ∙ ap has_wide (coefficients-append (terms_of m (take (i + 1) es)) (terms_of m (drop (i + 1) es)))

@@ -1,20 +1,19 @@
 -- What the code's arithmetic on fractions gives.
-use Rattle.std.proofs.Common.{ℕ, zero, suc, ◌+◌, ◌*◌, ◌/◌, ◌^◌, ◌<◌, ◌≤◌, ◌≡◌, refl, sym, ap, subst, ◌∙◌, inl, inr, arith, ℤ, pos, negsuc, ◌*ℤ◌, ◌≤ℤ◌, to_z, of_z, FitsSigned, Bool, true, false, Option, None, Some, cond}
+use Rattle.std.proofs.Common.{ℕ, zero, suc, ◌*◌, ◌/◌, ◌^◌, ◌<◌, ◌≤◌, ◌≡◌, refl, sym, ap, subst, ◌∙◌, arith, ℤ, pos, negsuc, ◌*ℤ◌, ◌≤ℤ◌, to_z, of_z, FitsSigned, Bool, true, false, None, Some}
 use Prim.Native.Nat.{◌∣◌}
 use mir.Syntax.{w128}
-use Rattle.std.specs.Prelude.{unsigned_abs, nat_lt}
+use Rattle.std.specs.Prelude.{unsigned_abs}
 use Rattle.std.specs.Int.{IsGcd}
-use Rattle.std.proofs.lemmas.Bool.{cond-true, cond-false, lt-ltb, ltb-true}
+use Rattle.std.proofs.lemmas.Bool.{cond-true, lt-ltb}
 use Rattle.std.proofs.lemmas.Int.{ints, to_z-of_z, unsigned_abs-mul, fits_signed_from_abs}
-use Rattle.std.proofs.lemmas.Nat.Gcd.{le_of_dvd}
-use Rattle.std.proofs.Math.Nat.{mul-le-mul, mul-div_cancel', pos_of_dvd_of_pos, dvd-mul_left_of_dvd, dvd-mul_right}
+use Rattle.std.proofs.Math.Nat.{mul-le-mul, mul-div_cancel', dvd-mul_left_of_dvd, dvd-mul_right}
 use Rattle.lp_base.proofs.Machine.{again}
-use Rattle.lp_base.proofs.Ring.{abs_mul, mul_assoc, mul_comm}
+use Rattle.lp_base.proofs.Ring.{abs_mul, mul_assoc}
 use Rattle.lp_nums.proofs.FractionLaws.{exact, same_by}
 use Rattle.lp_nums.specs.Fractions.{Fraction}
 use Rattle.deck_case.specs.Multipliers.{IsLcm, times}
 use Rattle.deck_case.specs.Wide.{far_end, is_wide, narrow}
-use Rattle.deck_case.proofs.Multiples.{lcm_from_gcd, same_lcm}
+use Rattle.deck_case.proofs.Multiples.{lcm_from_gcd}
 
 -- ---- the greatest common divisor
 
@@ -34,7 +33,7 @@ common_is a b g some h =
 pub times_is : (m : ℕ) (f : Fraction) (w : ℤ) → pos 1 ≤ℤ f.den → w *ℤ f.den ≡ f.num *ℤ pos m → times m f ≡ w
 times_is m f w some e =
     let size : unsigned_abs (f.num *ℤ pos m) ≡ unsigned_abs w * unsigned_abs f.den = ap unsigned_abs (sym e) ∙ unsigned_abs-mul w f.den in
-    let divides : unsigned_abs f.den ∣ unsigned_abs (f.num *ℤ pos m) = subst (λ n. unsigned_abs f.den ∣ n) (sym size ) (dvd-mul_left_of_dvd (unsigned_abs f.den) (own_divisor (unsigned_abs f.den)) (unsigned_abs w)) in
+    let divides : unsigned_abs f.den ∣ unsigned_abs (f.num *ℤ pos m) = subst (λ n. unsigned_abs f.den ∣ n) (sym size) (dvd-mul_left_of_dvd (unsigned_abs f.den) (own_divisor (unsigned_abs f.den)) (unsigned_abs w)) in
     same_by (times m f) w f.den some (exact (f.num *ℤ pos m) f.den divides ∙ sym e)
   where
     own_divisor : (n : ℕ) → n ∣ n

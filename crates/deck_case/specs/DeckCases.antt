@@ -1,5 +1,5 @@
 -- The case of a deck.
-use Rattle.std.specs.Prelude.{◌≡◌, ◌≤◌, ◌<◌, ◌+◌, ◌&&◌, ℕ, Bool, true, false, pos, List, [], None, is_some, length, map, slice_index_or, take, if◌then◌else◌}
+use Rattle.std.specs.Prelude.{◌≡◌, ◌≤◌, ◌<◌, ◌+◌, ◌&&◌, ℕ, Bool, true, false, pos, [], None, is_some, length, map, slice_index_or, take, if◌then◌else◌}
 use Rattle.std.specs.List.{enumerate_from}
 use Rattle.lpcc_case.specs.Cases.{instance_of}
 use Rattle.lpcc_case.specs.Instance.{Instance}

@@ -1,5 +1,5 @@
 -- What a deck says of a point x / d, in its own words and in fractions.
-use Rattle.std.specs.Prelude.{◌≡◌, ◌≢◌, ℕ, ℤ, pos, List, All, Option, Some, IfSome, ◌⊎◌, map, slice_get, slice_index_or, length}
+use Rattle.std.specs.Prelude.{◌≡◌, ◌≢◌, ℕ, pos, All, Option, Some, IfSome, ◌⊎◌, map, slice_get, slice_index_or, length}
 use Rattle.lp_nums.specs.Fractions.{Fraction, SameValue}
 use Rattle.lpcc_case.specs.Points.{Point}
 use Rattle.mps_pairs.specs.Decks.{entries_of}

@@ -1,5 +1,5 @@
 -- Arithmetic of fractions whose denominators are positive, in lowest terms or not.
-use Rattle.std.specs.Prelude.{ℤ, pos, ◌+ℤ◌, ◌*ℤ◌, ◌≤ℤ◌, neg_ℤ, List, [], ◌∷◌, unsigned_abs}
+use Rattle.std.specs.Prelude.{pos, ◌+ℤ◌, ◌*ℤ◌, ◌≤ℤ◌, neg_ℤ, List, [], ◌∷◌, unsigned_abs}
 use Rattle.lp_nums.specs.Fractions.{Fraction}
 
 abbrev pub plus : Fraction → Fraction → Fraction

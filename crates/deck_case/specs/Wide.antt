@@ -1,5 +1,5 @@
 -- What is too wide for a case, and the line that names it.
-use Rattle.std.specs.Prelude.{◌≡◌, ◌≤◌, ◌≤ℤ◌, ◌<◌, ℕ, ℤ, ◌+ℤ◌, ◌-ℤ◌, ◌^◌, ◌++◌, pos, Bool, true, false, nat_lt, List, [], ◌∷◌, Option, None, Some, MatchOption, map, unsigned_abs, if◌then◌else◌}
+use Rattle.std.specs.Prelude.{◌≡◌, ◌≤◌, ◌≤ℤ◌, ◌<◌, ℕ, ℤ, ◌+ℤ◌, ◌-ℤ◌, ◌^◌, ◌++◌, pos, Bool, true, false, nat_lt, List, [], ◌∷◌, Option, None, Some, MatchOption, unsigned_abs, if◌then◌else◌}
 use Rattle.std.specs.Int.{◌∣◌}
 use Rattle.std.specs.List.{enumerate_from, flat_map, list_any}
 use Rattle.std.specs.Option.{option_map, option_map_or, option_to_list}
@@ -11,7 +11,7 @@ use Rattle.mps_pairs.specs.declared.deck.Column.{Column}
 use Rattle.mps_pairs.specs.declared.deck.Deck.{Deck}
 use Rattle.mps_pairs.specs.declared.deck.Entry.{Entry}
 use Rattle.mps_pairs.specs.declared.deck.Letter.{Letter}
-use Rattle.mps_pairs.specs.declared.deck.Letter.TheVariants.{N, E, L, G}
+use Rattle.mps_pairs.specs.declared.deck.Letter.TheVariants.{N}
 use Rattle.mps_pairs.specs.declared.deck.Row.{Row}
 use Rattle.deck_case.specs.declared.rows.Ends.{Ends}
 use Rattle.deck_case.specs.Multipliers.{multiplier, times}

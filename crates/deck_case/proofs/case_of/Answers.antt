@@ -1,9 +1,9 @@
-use Rattle.std.proofs.Common.{◌≡◌, ◌≤◌, ◌+◌, ◌++◌, ◌∙◌, ap, arith, rules, sym, [], length, map, take, FitsSigned}
+use Rattle.std.proofs.Common.{◌≡◌, ◌≤◌, ◌++◌, ◌∙◌, ap, arith, rules, sym, [], length, map, FitsSigned}
 use mir.Syntax.{w64}
 use Rattle.std.specs.List.{enumerate_from, flat_map, range_with_len}
 use Rattle.lp_base.proofs.Machine.{again_64}
 use Rattle.deck_case.specs.CaseParts.{column_constraints, constraints_of, constraints_of_columns}
-use Rattle.deck_case.specs.Wide.{wide_column, wide_lines, wide_rows}
+use Rattle.deck_case.specs.Wide.{wide_column, wide_lines}
 use Rattle.deck_case.proofs.BoundSteps.{behind}
 use Rattle.deck_case.proofs.CaseFacts.{is_case_of_parts}
 use Rattle.deck_case.proofs.case_of.Goals as goal
@@ -23,13 +23,13 @@ of_parts-requires c =
     let fits_scale : FitsSigned w64 body.objective.scale = search rules in
     let fits_offset : FitsSigned w64 body.objective.offset = search rules in
     let made : c.of_vec.result ≡ constraints_of d =
-      c.of_vec.ensures
-      ∙ c.in_ok-columns.ensures.ok
-      ∙ ap (λ cols. body.constraints.items ++ constraints_of_columns (enumerate_from 0 cols)) c.as_slice-3.ensures
-      ∙ ap (λ l. l ++ column_constraints d) c.in_ok-body.ensures.constraints in
+    c.of_vec.ensures
+    ∙ c.in_ok-columns.ensures.ok
+    ∙ ap (λ cols. body.constraints.items ++ constraints_of_columns (enumerate_from 0 cols)) c.as_slice-3.ensures
+    ∙ ap (λ l. l ++ column_constraints d) c.in_ok-body.ensures.constraints in
     let none : wide_lines d ≡ [] =
-      ap (λ l. l ++ flat_map wide_column d.columns) c.in_ok-body.ensures.narrow
-      ∙ ap (λ cols. flat_map wide_column cols) (sym c.as_slice-3.ensures)
-      ∙ c.in_ok-columns.ensures.narrow in
+    ap (λ l. l ++ flat_map wide_column d.columns) c.in_ok-body.ensures.narrow
+    ∙ ap (λ cols. flat_map wide_column cols) (sym c.as_slice-3.ensures)
+    ∙ c.in_ok-columns.ensures.narrow in
     let few : length c.of_vec.result ≤ 2000 = omega (arith, ap length c.of_vec.ensures, c.if-len-gt-MOST_CONSTRAINTS.false, c.len-2.ensures, c.push_columns.new.made.ok) in
     is_case_of_parts d c.len-3.result body.objective.cost _ _ c.of_vec.result c.in_ok-pairs.pairs c.requires none few c.len-3.ensures c.in_ok-body.ensures.cost (again_64 body.objective.scale fits_scale ∙ c.in_ok-body.ensures.scale) (again_64 body.objective.offset fits_offset ∙ c.in_ok-body.ensures.offset) made c.in_ok-pairs.ensures

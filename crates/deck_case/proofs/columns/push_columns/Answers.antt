@@ -1,4 +1,4 @@
-use Rattle.std.proofs.Common.{◌∙◌, ap, arith, length, subst, sym, []}
+use Rattle.std.proofs.Common.{◌∙◌, ap, arith, length, subst, sym}
 use Rattle.std.specs.List.{flat_map}
 use Rattle.mps_pairs.specs.declared.deck.Column.{Column}
 use Rattle.deck_case.specs.Faults.{IsFirstOf}

@@ -1,7 +1,6 @@
-use Rattle.std.proofs.Common.{◌≡◌, ◌≤◌, arith, rules, subst, sym, FitsSigned, to_z, of_z}
+use Rattle.std.proofs.Common.{arith, rules, subst, sym, FitsSigned}
 use mir.Syntax.{w128}
 use Rattle.std.specs.Int.{IsGcd}
-use Rattle.std.specs.Prelude.{unsigned_abs}
 use Rattle.std.proofs.lemmas.Int.{ints}
 use Rattle.std.proofs.lemmas.Nat.Gcd.{le_of_dvd}
 use Rattle.deck_case.proofs.Wholes.{divisor_read}

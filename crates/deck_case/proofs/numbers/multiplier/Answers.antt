@@ -1,11 +1,11 @@
-use Rattle.std.proofs.Common.{◌≡◌, ◌+◌, ◌∙◌, ap, arith, refl, sym, [], ◌∷◌, ◌++◌, map, drop, take, pos, None, Some, ◌≤ℤ◌}
+use Rattle.std.proofs.Common.{◌+◌, ◌∙◌, ap, refl, sym, [], ◌∷◌, ◌++◌, map, drop, take, pos, None, Some, ◌≤ℤ◌}
 use Rattle.std.specs.Option.{option_to_list}
-use Rattle.std.proofs.lemmas.List.{append-nil, take_all}
+use Rattle.std.proofs.lemmas.List.{append-nil}
 use Rattle.std.proofs.lemmas.List.Elements.{All-nil}
 use Rattle.lp_nums.specs.Fractions.{Fraction}
 use Rattle.deck_case.specs.CaseParts.{numbers_of}
 use Rattle.deck_case.specs.Multipliers.{ArePositive, multiplier}
-use Rattle.deck_case.proofs.MultiplierSteps.{numbers-split, numbers_more, part_positive, part_some, none_part, split_first, split_range, range_den, item_number, step_is, taken_positive}
+use Rattle.deck_case.proofs.MultiplierSteps.{numbers-split, part_positive, part_some, none_part, split_first, split_range, range_den, item_number, step_is, taken_positive}
 use Rattle.deck_case.proofs.numbers.multiplier.Goals as goal
 
 none_positive : ArePositive []

@@ -1,8 +1,7 @@
-use Rattle.std.proofs.Common.{◌<◌, ◌∙◌, ap, arith, subst, sym, None, All}
+use Rattle.std.proofs.Common.{◌<◌, ◌∙◌, subst, sym, None, All}
 use Rattle.std.specs.Prelude.{IsTrue}
 use Rattle.lp_base.specs.Ascending.{ascends_by}
 use Rattle.lpcc_case.specs.Cases.{column_of}
-use Rattle.deck_case.specs.CaseParts.{coefficients, terms_of}
 use Rattle.deck_case.proofs.RowSteps.{entries_cleared, rhs_cleared, row_positive}
 use Rattle.deck_case.proofs.TermFacts.{terms_ascend, terms_named}
 use Rattle.deck_case.proofs.objective.objective_of_row.Goals as goal

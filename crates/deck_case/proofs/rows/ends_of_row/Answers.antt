@@ -1,4 +1,4 @@
-use Rattle.std.proofs.Common.{◌≡◌, ◌∙◌, ap, subst, sym, Option, Some, rules, FitsSigned}
+use Rattle.std.proofs.Common.{◌∙◌, ap, subst, sym, Option, rules, FitsSigned}
 use mir.Syntax.{w64}
 use Rattle.lp_base.proofs.Machine.{again_64}
 use Rattle.std.specs.Prelude.{IfSome}

@@ -1,4 +1,4 @@
-use Rattle.std.proofs.Common.{◌≡◌, ◌<◌, ◌∙◌, ap, arith, subst, sym, pos, All, length}
+use Rattle.std.proofs.Common.{◌<◌, ◌∙◌, ap, arith, subst, sym, pos, All, length}
 use Rattle.std.specs.Prelude.{IsTrue}
 use Rattle.std.specs.List.{enumerate_from}
 use Rattle.lp_base.specs.Ascending.{ascends_by}
