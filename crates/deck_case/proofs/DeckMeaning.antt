@@ -16,7 +16,7 @@ use Rattle.deck_case.specs.DeckCases.{case_of_deck, row_at}
 use Rattle.deck_case.specs.DeckPoints.{column_value, objective_value, row_value}
 use Rattle.deck_case.specs.Multipliers.{times}
 use Rattle.deck_case.specs.Rationals.{minus, negative, product, total}
-use Rattle.deck_case.specs.Wide.{IsClearedBy}
+use Rattle.deck_case.specs.Steps.{IsClearedBy}
 use Rattle.deck_case.proofs.BodySteps.{row_at_is}
 use Rattle.deck_case.proofs.CaseFacts.{objective_numbers}
 use Rattle.deck_case.proofs.CostSums.{dot_coefficient, entry_sum, terms_sum}

@@ -31,7 +31,7 @@ use Rattle.deck_case.specs.DeckPoints.{IsWithin, IsZeroAt, MeetsDeck, column_val
 use Rattle.deck_case.specs.Multipliers.{times}
 use Rattle.deck_case.specs.Rationals.{IsAtMost, minus, plus, size, total}
 use Rattle.deck_case.specs.Sides.{between, reaches_down, sides}
-use Rattle.deck_case.specs.Wide.{IsClearedBy}
+use Rattle.deck_case.specs.Steps.{IsClearedBy}
 use Rattle.deck_case.proofs.BodySteps.{letter_of_objective}
 use Rattle.deck_case.proofs.CaseFacts.{All-flat_map, numbered_at}
 use Rattle.deck_case.proofs.DeckMeaning.{IsRowSum, row_sum, values_at}

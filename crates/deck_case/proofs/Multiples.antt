@@ -11,8 +11,8 @@ use Rattle.std.proofs.lemmas.List.Folds.{list_all-append}
 use Rattle.std.proofs.lemmas.Nat.Gcd.{dvd_trans, dvd-zero, dvd_antisymm, le_of_dvd, dvd_of_mod-eq-zero, mod-eq-zero_of_dvd, IsGcd-from_zero, IsGcd-from_mod}
 use Rattle.std.proofs.Math.Nat.{one-dvd, mul-dvd-mul_left, mul-dvd-mul_right, dvd_of_mul-dvd-mul_left, dvd_of_mul-dvd-mul_right, dvd-mul_left, dvd-mul_right, dvd-mul_left_of_dvd, pos_of_dvd_of_pos, mul-div_cancel'}
 use Rattle.lp_nums.specs.Fractions.{Fraction}
-use Rattle.deck_case.specs.Multipliers.{ArePositive, IsLcm, IsLeastMultiplier, clears, first_from, multiplier, product_of_dens}
-use Rattle.deck_case.specs.Wide.{IsNarrowMultiplier}
+use Rattle.deck_case.specs.Multipliers.{ArePositive, IsLeastMultiplier, clears, first_from, multiplier, product_of_dens}
+use Rattle.deck_case.specs.Steps.{IsLcm, IsNarrowMultiplier}
 
 -- ---- the least common multiple
 

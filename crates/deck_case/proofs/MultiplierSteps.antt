@@ -9,7 +9,7 @@ use Rattle.mps_pairs.specs.Decks.{IsDeckNumber}
 use Rattle.mps_pairs.specs.declared.deck.Entry.{Entry}
 use Rattle.deck_case.specs.CaseParts.{numbers_of}
 use Rattle.deck_case.specs.Multipliers.{ArePositive, multiplier}
-use Rattle.deck_case.specs.Wide.{IsNarrowMultiplier}
+use Rattle.deck_case.specs.Steps.{IsNarrowMultiplier}
 use Rattle.deck_case.proofs.Multiples.{common_of, multiplier_grows}
 
 -- ---- parts of lists

@@ -7,7 +7,7 @@ use Rattle.lp_base.proofs.Ring.{le_of_mul_right, mul_add_right, mul_assoc, mul_c
 use Rattle.lp_nums.specs.Fractions.{Fraction, SameValue}
 use Rattle.deck_case.specs.Multipliers.{times}
 use Rattle.deck_case.specs.Rationals.{IsAtMost, minus, negative, plus, product, size}
-use Rattle.deck_case.specs.Wide.{IsClearedBy}
+use Rattle.deck_case.specs.Steps.{IsClearedBy}
 use Rattle.deck_case.proofs.SideSteps.{cross, positive_product, times_plus}
 use Rattle.deck_case.proofs.Wholes.{positive_den, times_whole}
 

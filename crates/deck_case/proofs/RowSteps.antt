@@ -19,11 +19,11 @@ use Rattle.mps_pairs.specs.declared.deck.Row.{Row}
 use Rattle.deck_case.specs.declared.fault.CaseFault.{CaseFault}
 use Rattle.deck_case.specs.declared.fault.CaseFault.TheVariants.{RowWide, TooMany, NoMemory}
 use Rattle.deck_case.specs.CaseParts.{Terms, at_least, at_most, between_ends, coefficients, constraints_of_row, equal_to, is_equation, negated, numbers_of, row_multiplier, terms_of}
-use Rattle.deck_case.specs.Faults.{IsFirstOf}
+use Rattle.deck_case.specs.Steps.{IsClearedBy, IsFirstOf, IsNarrowTerm, end_numbers}
 use Rattle.deck_case.specs.Multipliers.{multiplier, times}
 use Rattle.deck_case.specs.Sides.{between, reaches_down, sides}
 use Rattle.deck_case.specs.Rationals.{minus, plus, size}
-use Rattle.deck_case.specs.Wide.{IsClearedBy, IsNarrowTerm, end_numbers, has_wide, is_wide, judged_numbers, named, whole_numbers, wide_row}
+use Rattle.deck_case.specs.Wide.{has_wide, is_wide, judged_numbers, named, whole_numbers, wide_row}
 use Rattle.deck_case.proofs.MultiplierSteps.{All-left, All-right, part_some, positive_numbers}
 use Rattle.deck_case.proofs.Multiples.{each_divides}
 use Rattle.deck_case.proofs.TermSteps.{named_narrow, named_wide, or_false, or_true_right, wide_append}

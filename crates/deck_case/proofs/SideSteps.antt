@@ -13,7 +13,8 @@ use Rattle.deck_case.specs.declared.rows.Ends.{Ends}
 use Rattle.deck_case.specs.Multipliers.{times}
 use Rattle.deck_case.specs.Rationals.{minus, negative, plus, size}
 use Rattle.deck_case.specs.Sides.{Sides, between, reaches_down, sides}
-use Rattle.deck_case.specs.Wide.{AreEnds, IsClearedBy, ends_of, far_end, has_wide, is_wide, narrow}
+use Rattle.deck_case.specs.Wide.{has_wide, is_wide}
+use Rattle.deck_case.specs.Steps.{AreEnds, IsClearedBy, ends_of, far_end, narrow}
 use Rattle.deck_case.proofs.TermSteps.{narrow_none, narrow_some, or_false, or_true_left, or_true_right}
 use Rattle.deck_case.proofs.Wholes.{times_is, times_whole}
 

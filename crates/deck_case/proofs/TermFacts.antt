@@ -20,7 +20,7 @@ use Rattle.mps_pairs.specs.declared.deck.Entry.{Entry}
 use Rattle.mps_pairs.specs.declared.deck.Row.{Row}
 use Rattle.deck_case.specs.CaseParts.{is_nonzero, numbers_of, terms_of}
 use Rattle.deck_case.specs.Multipliers.{times}
-use Rattle.deck_case.specs.Wide.{IsClearedBy}
+use Rattle.deck_case.specs.Steps.{IsClearedBy}
 use Rattle.deck_case.proofs.MultiplierSteps.{All-right}
 use Rattle.deck_case.proofs.Rising.{ascends-filter, ascends-map}
 use Rattle.deck_case.proofs.Wholes.{times_size}

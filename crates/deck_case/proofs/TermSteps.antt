@@ -9,7 +9,8 @@ use Rattle.std.proofs.lemmas.List.Folds.{list_any-append}
 use Rattle.mps_pairs.specs.declared.deck.Entry.{Entry}
 use Rattle.deck_case.specs.CaseParts.{coefficients, is_nonzero, terms_of}
 use Rattle.deck_case.specs.Multipliers.{times}
-use Rattle.deck_case.specs.Wide.{has_wide, is_wide, named, narrow}
+use Rattle.deck_case.specs.Wide.{has_wide, is_wide, named}
+use Rattle.deck_case.specs.Steps.{narrow}
 
 -- ---- narrow numbers
 

@@ -11,8 +11,9 @@ use Rattle.lp_base.proofs.Machine.{again}
 use Rattle.lp_base.proofs.Ring.{abs_mul, mul_assoc}
 use Rattle.lp_nums.proofs.FractionLaws.{exact, same_by}
 use Rattle.lp_nums.specs.Fractions.{Fraction}
-use Rattle.deck_case.specs.Multipliers.{IsLcm, times}
-use Rattle.deck_case.specs.Wide.{far_end, is_wide, narrow}
+use Rattle.deck_case.specs.Multipliers.{times}
+use Rattle.deck_case.specs.Wide.{is_wide}
+use Rattle.deck_case.specs.Steps.{IsLcm, far_end, narrow}
 use Rattle.deck_case.proofs.Multiples.{lcm_from_gcd}
 
 -- ---- the greatest common divisor

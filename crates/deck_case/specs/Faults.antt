@@ -1,5 +1,5 @@
 -- When a deck has no case.
-use Rattle.std.specs.Prelude.{◌≡◌, ℕ, List, Some, slice_get}
+use Rattle.std.specs.Prelude.{◌≡◌, Some, slice_get}
 use Rattle.mps_pairs.specs.declared.deck.Deck.{Deck}
 use Rattle.deck_case.specs.declared.fault.CaseFault.{CaseFault}
 use Rattle.deck_case.specs.declared.fault.CaseFault.TheVariants.{RowWide, TooMany, NoMemory}
@@ -22,9 +22,3 @@ abbrev pub IsFaultOf : Deck → CaseFault → Type 0
 IsFaultOf d (RowWide line) = HasCaseFault d (RowWide line)
 IsFaultOf d (TooMany line) = HasCaseFault d (TooMany line)
 IsFaultOf d (NoMemory error) = Unit {0}
-
--- the first of the lines that name what is too wide, or want of memory
-abbrev pub IsFirstOf : List ℕ → CaseFault → Type 0
-IsFirstOf lines (RowWide line) = slice_get lines 0 ≡ Some line
-IsFirstOf lines (TooMany line) = ⊥
-IsFirstOf lines (NoMemory error) = Unit {0}

@@ -6,3 +6,4 @@ pub mod Wide
 pub mod DeckCases
 pub mod Faults
 pub mod DeckPoints
+pub mod Steps

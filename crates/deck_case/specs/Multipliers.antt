@@ -25,10 +25,6 @@ multiplier fs = first_from (clears fs) (product_of_dens fs) 1
 abbrev pub times : ℕ → Fraction → ℤ
 times m f = int_div (f.num *ℤ pos m) f.den
 
--- the least common multiple: it divides each common multiple
-abbrev pub IsLcm : ℕ → ℕ → ℕ → Type 0
-IsLcm a b l = (a ∣ l) × (b ∣ l) × ((k : ℕ) → a ∣ k → b ∣ k → l ∣ k)
-
 abbrev pub ArePositive : List Fraction → Type 0
 ArePositive fs = All (λ f. pos 1 ≤ℤ f.den) fs
 

@@ -1,9 +1,7 @@
 -- What is too wide for a case, and the line that names it.
-use Rattle.std.specs.Prelude.{◌≡◌, ◌≤◌, ◌≤ℤ◌, ◌<◌, ℕ, ℤ, ◌+ℤ◌, ◌-ℤ◌, ◌^◌, ◌++◌, pos, Bool, true, false, nat_lt, List, [], ◌∷◌, Option, None, Some, MatchOption, unsigned_abs, if◌then◌else◌}
-use Rattle.std.specs.Int.{◌∣◌}
+use Rattle.std.specs.Prelude.{ℕ, ℤ, ◌^◌, ◌++◌, pos, Bool, nat_lt, List, [], ◌∷◌, unsigned_abs, if◌then◌else◌}
 use Rattle.std.specs.List.{enumerate_from, flat_map, list_any}
-use Rattle.std.specs.Option.{option_map, option_map_or, option_to_list}
-use Rattle.lp_nums.specs.Fractions.{Fraction}
+use Rattle.std.specs.Option.{option_map_or}
 use Rattle.lpcc_case.specs.declared.constraint.Constraint.{Constraint}
 use Rattle.mps_pairs.specs.Decks.{entries_of}
 use Rattle.mps_pairs.specs.declared.deck.Bound.{Bound}
@@ -13,30 +11,14 @@ use Rattle.mps_pairs.specs.declared.deck.Entry.{Entry}
 use Rattle.mps_pairs.specs.declared.deck.Letter.{Letter}
 use Rattle.mps_pairs.specs.declared.deck.Letter.TheVariants.{N}
 use Rattle.mps_pairs.specs.declared.deck.Row.{Row}
-use Rattle.deck_case.specs.declared.rows.Ends.{Ends}
-use Rattle.deck_case.specs.Multipliers.{multiplier, times}
-use Rattle.deck_case.specs.Sides.{Sides}
 use Rattle.deck_case.specs.CaseParts.{coefficients, constraints_of_row, cost_terms, offset_of, row_multiplier, scale_of}
 
 -- past 2^52 in size
 abbrev pub is_wide : ℤ → Bool
 is_wide z = nat_lt (2 ^ 52) (unsigned_abs z)
 
-abbrev pub narrow : ℤ → Option ℤ
-narrow z = if is_wide z then None else Some z
-
 abbrev pub has_wide : List ℤ → Bool
 has_wide numbers = list_any is_wide numbers
-
--- the multiplier of these fractions, none where it is too wide
-abbrev pub IsNarrowMultiplier : List Fraction → Option ℕ → Type 0
-IsNarrowMultiplier fs found = MatchOption found (2 ^ 52 < multiplier fs) (λ m. (m ≡ multiplier fs) × (m ≤ 2 ^ 52))
-
--- the multiplier clears the number, whose denominator is one that a deck can have
-pub record IsClearedBy (m : ℕ) (f : Fraction) : Type 0 where
-  pub positive : pos 1 ≤ℤ f.den
-  pub divides : unsigned_abs f.den ∣ m
-  pub small : unsigned_abs f.den ≤ 10 ^ 18
 
 -- the whole numbers of a constraint
 abbrev pub whole_numbers : Constraint → List ℤ
@@ -68,24 +50,3 @@ wide_rows entries numbered = flat_map (λ r. wide_row (entries_of entries r.0) r
 -- the lines that name what is too wide: the rows with the objective in file order, then the columns
 abbrev pub wide_lines : Deck → List ℕ
 wide_lines d = wide_rows d.entries (enumerate_from 0 d.rows) ++ flat_map wide_column d.columns
-
--- ---- the ends of a row as the code has them
-
--- the two sides times m
-abbrev pub end_numbers : ℕ → Sides → List ℤ
-end_numbers m s = option_to_list (option_map (times m) s.lower) ++ option_to_list (option_map (times m) s.upper)
-
--- these are the sides times m, and none where one of them is too wide
-abbrev pub AreEnds : ℕ → Sides → Option Ends → Type 0
-AreEnds m s None = has_wide (end_numbers m s) ≡ true
-AreEnds m s (Some e) = (e.lower ≡ option_map (times m) s.lower) × (e.upper ≡ option_map (times m) s.upper) × (has_wide (end_numbers m s) ≡ false)
-
-abbrev pub ends_of : Option ℤ → Option ℤ → Ends
-ends_of lower upper = record { lower = lower; upper = upper }
-
--- the end that a range of this size gives
-abbrev pub far_end : ℤ → Bool → ℤ → ℤ
-far_end near down span = if down then near -ℤ pos (unsigned_abs span) else near +ℤ pos (unsigned_abs span)
-
-abbrev pub IsNarrowTerm : ℕ × ℤ → Type 0
-IsNarrowTerm t = unsigned_abs t.1 ≤ 2 ^ 52

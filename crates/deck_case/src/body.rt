@@ -6,7 +6,7 @@ ghost use Rattle.mps_pairs.specs.declared.deck.Letter.TheVariants.{N};
 ghost use Rattle.mps_pairs.specs.Decks.{IsDeck, IsDeckNumber, entries_of, entry_column};
 ghost use Rattle.deck_case.specs.CaseParts.{constraints_of_row, cost_of, numbers_of, offset_of, row_constraints, scale_of};
 ghost use Rattle.deck_case.specs.DeckCases.{before_row, row_at};
-ghost use Rattle.deck_case.specs.Faults.{IsFirstOf};
+ghost use Rattle.deck_case.specs.Steps.{IsFirstOf};
 ghost use Rattle.deck_case.specs.Wide.{wide_row, wide_rows};
 
 use crate::CaseFault;

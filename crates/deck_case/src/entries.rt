@@ -3,8 +3,8 @@ ghost use Rattle.std.specs.Prelude.{◌≡◌, ◌<◌, ◌≤◌, ◌^◌, [], 
 ghost use Rattle.std.specs.List.{range_with_len};
 ghost use Rattle.mps_pairs.specs.Decks.{entries_of};
 ghost use Rattle.deck_case.specs.CaseParts.{coefficients, terms_of};
-ghost use Rattle.deck_case.specs.Faults.{IsFirstOf};
-ghost use Rattle.deck_case.specs.Wide.{IsClearedBy, has_wide, named};
+ghost use Rattle.deck_case.specs.Steps.{IsClearedBy, IsFirstOf};
+ghost use Rattle.deck_case.specs.Wide.{has_wide, named};
 
 use crate::CaseFault;
 use crate::numbers::whole;

@@ -5,8 +5,8 @@ ghost use Rattle.lp_nums.specs.Fractions.{Fraction, IsReduced};
 ghost use Rattle.std.specs.Int.{IsGcd};
 ghost use Rattle.mps_pairs.specs.Decks.{IsDeckNumber};
 ghost use Rattle.deck_case.specs.CaseParts.{numbers_of};
-ghost use Rattle.deck_case.specs.Multipliers.{ArePositive, IsLcm, multiplier, times};
-ghost use Rattle.deck_case.specs.Wide.{IsClearedBy, IsNarrowMultiplier, far_end, narrow};
+ghost use Rattle.deck_case.specs.Multipliers.{ArePositive, multiplier, times};
+ghost use Rattle.deck_case.specs.Steps.{IsClearedBy, IsLcm, IsNarrowMultiplier, far_end, narrow};
 
 use lp_nums::{Frac, gcd};
 use mps_pairs::Entry;

@@ -7,7 +7,7 @@ ghost use Rattle.lpcc_case.specs.Points.{coefficient};
 ghost use Rattle.mps_pairs.specs.declared.deck.Letter.TheVariants.{N};
 ghost use Rattle.mps_pairs.specs.Decks.{IsDeckNumber, entry_column};
 ghost use Rattle.deck_case.specs.CaseParts.{cost_of, numbers_of, offset_of, scale_of};
-ghost use Rattle.deck_case.specs.Faults.{IsFirstOf};
+ghost use Rattle.deck_case.specs.Steps.{IsFirstOf};
 ghost use Rattle.deck_case.specs.Wide.{wide_row};
 
 use crate::CaseFault;

@@ -2,7 +2,7 @@
 ghost use Rattle.std.specs.Prelude.{◌≡◌, ◌<◌, ◌≤◌, ◌^◌, ◌++◌, All, IfOk, IfSome, OnOk, unsigned_abs};
 ghost use Rattle.std.specs.Option.{option_map, option_to_list};
 ghost use Rattle.deck_case.specs.CaseParts.{at_least, at_most, equal_to, negated};
-ghost use Rattle.deck_case.specs.Wide.{IsNarrowTerm};
+ghost use Rattle.deck_case.specs.Steps.{IsNarrowTerm};
 
 use crate::entries::Terms;
 use lp_base::Sequence;

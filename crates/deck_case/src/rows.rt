@@ -4,10 +4,10 @@ ghost use Rattle.std.specs.Option.{option_map};
 ghost use Rattle.mps_pairs.specs.Decks.{IsDeckNumber};
 ghost use Rattle.mps_pairs.specs.declared.deck.Letter.TheVariants.{N, E, L, G};
 ghost use Rattle.deck_case.specs.CaseParts.{between_ends, constraints_of_row, equal_to, is_equation, numbers_of};
-ghost use Rattle.deck_case.specs.Faults.{IsFirstOf};
+ghost use Rattle.deck_case.specs.Steps.{AreEnds, IsClearedBy, IsFirstOf, IsNarrowTerm, ends_of, far_end, narrow};
 ghost use Rattle.deck_case.specs.Multipliers.{times};
 ghost use Rattle.deck_case.specs.Sides.{reaches_down, sides};
-ghost use Rattle.deck_case.specs.Wide.{AreEnds, IsClearedBy, IsNarrowTerm, ends_of, far_end, narrow, wide_row};
+ghost use Rattle.deck_case.specs.Wide.{wide_row};
 
 use crate::CaseFault;
 use crate::entries::{Terms, terms};

@@ -1,7 +1,7 @@
 use Rattle.std.proofs.Common.{◌∙◌, ap, arith, length, subst, sym}
 use Rattle.std.specs.List.{flat_map}
 use Rattle.mps_pairs.specs.declared.deck.Column.{Column}
-use Rattle.deck_case.specs.Faults.{IsFirstOf}
+use Rattle.deck_case.specs.Steps.{IsFirstOf}
 use Rattle.deck_case.specs.Wide.{wide_column}
 use Rattle.deck_case.proofs.BoundSteps.{behind, behind_is, columns_done, columns_more}
 use Rattle.deck_case.proofs.Numbered.{first_here, none_more, numbers_pushed}

@@ -2,7 +2,7 @@ use Rattle.std.proofs.Common.{◌≤◌, arith, rules, sym, FitsSigned}
 use Rattle.std.specs.Prelude.{unsigned_abs}
 use mir.Syntax.{w128}
 use Rattle.deck_case.specs.Multipliers.{times}
-use Rattle.deck_case.specs.Wide.{far_end}
+use Rattle.deck_case.specs.Steps.{far_end}
 use Rattle.deck_case.proofs.Wholes.{far_wide, narrow_wide, times_wide}
 use Rattle.deck_case.proofs.numbers.far_end.Goals as goal
 

@@ -4,8 +4,9 @@ use Rattle.lp_base.proofs.Machine.{again_64}
 use Rattle.std.specs.Prelude.{IfSome}
 use Rattle.lp_nums.specs.Fractions.{Fraction}
 use Rattle.deck_case.specs.Sides.{reaches_down, sides}
-use Rattle.deck_case.specs.Wide.{AreEnds, IsClearedBy, is_wide}
+use Rattle.deck_case.specs.Wide.{is_wide}
 use Rattle.deck_case.specs.Multipliers.{times}
+use Rattle.deck_case.specs.Steps.{AreEnds, IsClearedBy}
 use Rattle.deck_case.proofs.SideSteps.{found_ends, with_range_found}
 use Rattle.deck_case.proofs.TermSteps.{narrow_some}
 use Rattle.deck_case.proofs.rows.ends_of_row.Goals as goal

@@ -1,6 +1,6 @@
 use Rattle.std.proofs.Common.{◌∙◌, ap, sym}
 use Rattle.deck_case.specs.CaseParts.{coefficients, terms_of}
-use Rattle.deck_case.specs.Faults.{IsFirstOf}
+use Rattle.deck_case.specs.Steps.{IsFirstOf}
 use Rattle.deck_case.specs.Wide.{has_wide, judged_numbers, wide_row}
 use Rattle.deck_case.proofs.RowSteps.{part_fault, passed_on, row_narrow, row_wide_by_ends, row_wide_by_terms, range_cleared, narrow_terms, row_positive, rhs_cleared, entries_cleared}
 use Rattle.deck_case.proofs.rows.push_row.Goals as goal
