@@ -1,0 +1,223 @@
+-- What is known of bounds when a line of BOUNDS is read.
+use Rattle.std.proofs.Common.{ℕ, ◌≡◌, Bool, true, false, ◌&&◌, ◌||◌, cond, eqb, List, [], ◌∷◌, ◌++◌, map, Option, Some, None, refl, sym, ap, ◌∙◌, append_assoc}
+use Rattle.std.proofs.lemmas.Bool.{or_parts, true≢false, eq-eqb}
+use Rattle.std.proofs.lemmas.List.{append-nil, map_push}
+use Rattle.std.proofs.lemmas.List.Concat.{flat_map-append}
+use Rattle.std.proofs.lemmas.List.Folds.{list_any-append}
+use Rattle.std.proofs.lemmas.List.Sums.{fold_push}
+use Rattle.std.specs.Prelude.{fold, unwrap_or}
+use Rattle.std.specs.Str.{bytes_eq}
+use Rattle.lp_nums.specs.Fractions.{Fraction}
+use Rattle.mps_lex.specs.Kinds.{Name}
+use Rattle.mps_lex.specs.Lines.{Line}
+use Rattle.mps_pairs.specs.declared.bounds.BoundKind.{BoundKind}
+use Rattle.mps_pairs.specs.declared.bounds.BoundKind.TheVariants.{Up, Lo, Fx, Fr, Mi, Pl}
+use Rattle.mps_pairs.specs.declared.deck.Column.{Column}
+use Rattle.mps_pairs.specs.Names.{has, add_name, named, put}
+use Rattle.mps_pairs.specs.Bounds.{Setting, setting_on, settings_in, bound_set, sets_lower, sets_upper, is_fx, later, last_setting, lower_bound, upper_bound, are_fixed, column_bounds, bounded, below_zero_line, upper_below_zero}
+use Rattle.mps_pairs.specs.Spelling.{first_set}
+use Rattle.mps_pairs.specs.Known.{set_or, KnownBounds, bounds_of, known_bounds, free_column, bounds_with, set_by, with_setting, with_settings, with_bound}
+use Rattle.mps_pairs.proofs.KeptNames.{same_name, own_name, has_more, has_added}
+
+-- ---- the bounds of a column behind one more setting
+
+abbrev column_with : Option Setting → Option Setting → Column
+column_with l u = record { lower = lower_bound l; upper = upper_bound u; fixed = are_fixed l u }
+
+two : (l m u v : Option Setting) → l ≡ m → u ≡ v → column_with l u ≡ column_with m v
+two l m u v e f = λ i. column_with (e i) (f i)
+
+last_push : (sets : BoundKind → Bool) (ss : List Setting) (s : Setting) (c : Name) → last_setting sets (ss ++ s ∷ []) c ≡ later sets c (last_setting sets ss c) s
+last_push sets ss s c = fold_push (later sets c) None ss s
+
+unset : (b : Bool) (s : Setting) (o : Option Setting) → cond (b && false) (Some s) o ≡ o
+unset true s o = refl
+unset false s o = refl
+
+-- a setting of another column changes nothing
+later_other : (sets : BoundKind → Bool) (c : Name) (o : Option Setting) (s : Setting) → bytes_eq c s.column ≡ false → later sets c o s ≡ o
+later_other sets c o s e = ap (λ (b : Bool). cond (sets s.kind && b) (Some s) o) e ∙ unset (sets s.kind) s o
+
+other_same : (ss : List Setting) (s : Setting) (c : Name) → bytes_eq c s.column ≡ false → column_bounds (ss ++ s ∷ []) c ≡ column_bounds ss c
+other_same ss s c e = two _ (last_setting sets_lower ss c) _ (last_setting sets_upper ss c)
+    (last_push sets_lower ss s c ∙ later_other sets_lower c (last_setting sets_lower ss c) s e) (last_push sets_upper ss s c ∙ later_other sets_upper c (last_setting sets_upper ss c) s e)
+
+never : (b c : Bool) → ((b && false) && c) ≡ false
+never true c = refl
+never false c = refl
+
+not_fixed : (l : Option Setting) (s : Setting) → is_fx s.kind ≡ false → are_fixed l (Some s) ≡ false
+not_fixed None s e = refl
+not_fixed (Some l) s e = ap (λ (b : Bool). (is_fx l.kind && b) && eqb l.line s.line) e ∙ never (is_fx l.kind) (eqb l.line s.line)
+
+lower_alone : (s : Setting) (u : Option Setting) → is_fx s.kind ≡ false → are_fixed (Some s) u ≡ false
+lower_alone s None e = refl
+lower_alone s (Some u) e = ap (λ (b : Bool). (b && is_fx u.kind) && eqb s.line u.line) e
+
+abbrev setting : BoundKind → ℕ → Name → Fraction → Setting
+setting kind line column value = record { kind = kind; line = line; column = column; value = value }
+
+set_own : (kind : BoundKind) (line : ℕ) (c : Name) (v : Fraction) (l u : Option Setting)
+    → column_with (cond (sets_lower kind && true) (Some (setting kind line c v)) l) (cond (sets_upper kind && true) (Some (setting kind line c v)) u) ≡ set_by (setting kind line c v) (column_with l u)
+set_own Up line c v l u = λ i. record { lower = lower_bound l; upper = upper_bound (Some (setting Up line c v)); fixed = not_fixed l (setting Up line c v) refl i }
+set_own Lo line c v l u = λ i. record { lower = lower_bound (Some (setting Lo line c v)); upper = upper_bound u; fixed = lower_alone (setting Lo line c v) u refl i }
+set_own Fx line c v l u = λ i. record { lower = lower_bound (Some (setting Fx line c v)); upper = upper_bound (Some (setting Fx line c v)); fixed = eq-eqb line line refl i }
+set_own Fr line c v l u = refl
+set_own Mi line c v l u = λ i. record { lower = lower_bound (Some (setting Mi line c v)); upper = upper_bound u; fixed = lower_alone (setting Mi line c v) u refl i }
+set_own Pl line c v l u = λ i. record { lower = lower_bound l; upper = upper_bound (Some (setting Pl line c v)); fixed = not_fixed l (setting Pl line c v) refl i }
+
+later_own : (sets : BoundKind → Bool) (ss : List Setting) (s : Setting) → last_setting sets (ss ++ s ∷ []) s.column ≡ cond (sets s.kind && true) (Some s) (last_setting sets ss s.column)
+later_own sets ss s = last_push sets ss s s.column ∙ ap (λ (b : Bool). cond (sets s.kind && b) (Some s) (last_setting sets ss s.column)) (own_name s.column)
+
+own_same : (ss : List Setting) (s : Setting) → column_bounds (ss ++ s ∷ []) s.column ≡ set_by s (column_bounds ss s.column)
+own_same ss s =
+    two _ (cond (sets_lower s.kind && true) (Some s) (last_setting sets_lower ss s.column)) _ (cond (sets_upper s.kind && true) (Some s) (last_setting sets_upper ss s.column)) (later_own sets_lower ss s) (later_own sets_upper ss s)
+    ∙ set_own s.kind s.line s.column s.value (last_setting sets_lower ss s.column) (last_setting sets_upper ss s.column)
+
+-- ---- names that stand once
+
+same_back : (b : Bool) (m n : Name) → bytes_eq n m ≡ b → bytes_eq m n ≡ false → b ≡ false
+same_back true m n q e = absurd (true≢false (sym (own_name m) ∙ ap (bytes_eq m) (sym (same_name n m q)) ∙ e))
+same_back false m n q e = refl
+
+other_way : (m n : Name) → bytes_eq m n ≡ false → bytes_eq n m ≡ false
+other_way m n e = same_back (bytes_eq n m) m n refl e
+
+abbrev Distinct : List Name → Type 0
+Distinct [] = Unit {0}
+Distinct (n ∷ ns) = (has ns n ≡ false) × Distinct ns
+
+neither : (a b : Bool) → a ≡ false → b ≡ false → (a || (b || false)) ≡ false
+neither a b e f = ap (λ (x : Bool). x || (b || false)) e ∙ ap (λ (x : Bool). x || false) f
+
+distinct_push : (ns : List Name) (c : Name) → Distinct ns → has ns c ≡ false → Distinct (ns ++ c ∷ [])
+distinct_push [] c d e = (refl, tt)
+distinct_push (n ∷ ns) c d e =
+    let p = or_parts (bytes_eq c n) (has ns c) e in
+    (list_any-append (bytes_eq n) ns (c ∷ []) ∙ neither (has ns n) (bytes_eq n c) d.0 (other_way c n p.0), distinct_push ns c d.1 p.1)
+
+distinct_by : (b : Bool) (ns : List Name) (c : Name) → has ns c ≡ b → Distinct ns → Distinct (cond b ns (ns ++ c ∷ []))
+distinct_by true ns c q d = d
+distinct_by false ns c q d = distinct_push ns c d q
+
+distinct_all : (ns more : List Name) → Distinct ns → Distinct (fold add_name ns more)
+distinct_all ns [] d = d
+distinct_all ns (c ∷ more) d = distinct_all (add_name ns c) more (distinct_by (has ns c) ns c refl d)
+
+still_has : (ns more : List Name) (c : Name) → has ns c ≡ true → has (fold add_name ns more) c ≡ true
+still_has ns [] c h = h
+still_has ns (n ∷ more) c h = still_has (add_name ns n) more c (has_more ns n c h)
+
+has_by : (b : Bool) (ns more : List Name) (n c : Name) → bytes_eq c n ≡ b → (has more c ≡ true → has (fold add_name (add_name ns n) more) c ≡ true) → (b || has more c) ≡ true → has (fold add_name (add_name ns n) more) c ≡ true
+has_by true ns more n c q next h = still_has (add_name ns n) more c (ap (has (add_name ns n)) (same_name c n q) ∙ has_added ns n)
+has_by false ns more n c q next h = next h
+
+-- each name stands once
+has_once : (ns more : List Name) (c : Name) → has more c ≡ true → has (fold add_name ns more) c ≡ true
+has_once ns [] c h = absurd (true≢false (sym h))
+has_once ns (n ∷ more) c h = has_by (bytes_eq c n) ns more n c refl (λ e. has_once (add_name ns n) more c e) h
+
+not_by : (b : Bool) (ns : List Name) (c : Name) → has ns c ≡ b → has (fold add_name [] ns) c ≡ false → b ≡ false
+not_by true ns c q e = absurd (true≢false (sym (has_once [] ns c q) ∙ e))
+not_by false ns c q e = refl
+
+-- ---- the columns with their bounds
+
+named_by : (b : Bool) (ss : List Setting) (n : Name) (ns : List Name) (c : Name) → bytes_eq c n ≡ b → named (map (bounds_of ss) ns) c ≡ cond (has ns c) (Some (column_bounds ss c)) None
+    → cond b (Some (column_bounds ss n)) (named (map (bounds_of ss) ns) c) ≡ cond (b || has ns c) (Some (column_bounds ss c)) None
+named_by true ss n ns c q next = ap (λ (x : Name). Some (column_bounds ss x)) (sym (same_name c n q))
+named_by false ss n ns c q next = next
+
+named_mapped : (ss : List Setting) (ns : List Name) (c : Name) → named (map (bounds_of ss) ns) c ≡ cond (has ns c) (Some (column_bounds ss c)) None
+named_mapped ss [] c = refl
+named_mapped ss (n ∷ ns) c = named_by (bytes_eq c n) ss n ns c refl (named_mapped ss ns c)
+
+abbrev columns_of : Setting → Name
+columns_of s = s.column
+
+-- a setting of no column of this name
+unnamed : (sets : BoundKind → Bool) (c : Name) (o : Option Setting) (ss : List Setting) → has (map columns_of ss) c ≡ false → fold (later sets c) o ss ≡ o
+unnamed sets c o [] e = refl
+unnamed sets c o (s ∷ ss) e =
+    let p = or_parts (bytes_eq c s.column) (has (map columns_of ss) c) e in
+    ap (λ (x : Option Setting). fold (later sets c) x ss) (later_other sets c o s p.0) ∙ unnamed sets c o ss p.1
+
+free_by : (b : Bool) (ss : List Setting) (c : Name) → has (bounded ss) c ≡ b → unwrap_or (cond b (Some (column_bounds ss c)) None) free_column ≡ column_bounds ss c
+free_by true ss c q = refl
+free_by false ss c q =
+    let none = not_by (has (map columns_of ss) c) (map columns_of ss) c refl q in
+    sym (two (last_setting sets_lower ss c) None (last_setting sets_upper ss c) None (unnamed sets_lower c None ss none) (unnamed sets_upper c None ss none))
+
+abbrev bounds_known : List Setting → List (Name × Column)
+bounds_known ss = map (bounds_of ss) (bounded ss)
+
+pub bounds_same : (ss : List Setting) (c : Name) → bounds_with (map (bounds_of ss) (bounded ss)) c ≡ column_bounds ss c
+bounds_same ss c = ap (λ (o : Option Column). unwrap_or o free_column) (named_mapped ss (bounded ss) c) ∙ free_by (has (bounded ss) c) ss c refl
+
+seconds : (ss : List Setting) (ns : List Name) → map (λ (e : Name × Column). e.1) (map (bounds_of ss) ns) ≡ map (column_bounds ss) ns
+seconds ss [] = refl
+seconds ss (n ∷ ns) = ap (λ (x : List Column). column_bounds ss n ∷ x) (seconds ss ns)
+
+pub below_same : (ss : List Setting) → below_zero_line (map (λ (e : Name × Column). e.1) (map (bounds_of ss) (bounded ss))) ≡ upper_below_zero ss
+below_same ss = ap below_zero_line (seconds ss (bounded ss))
+
+-- ---- one setting more
+
+abbrev OthersSame : List Setting → List Setting → Name → Type 0
+OthersSame ss new c = (n : Name) → bytes_eq c n ≡ false → column_bounds ss n ≡ column_bounds new n
+
+abbrev Bounds : Type 0
+Bounds = List (Name × Column)
+
+others_same : (ss new : List Setting) (c : Name) (ns : List Name) → OthersSame ss new c → has ns c ≡ false → map (bounds_of ss) ns ≡ map (bounds_of new) ns
+others_same ss new c [] f e = refl
+others_same ss new c (n ∷ ns) f e =
+    let p = or_parts (bytes_eq c n) (has ns c) e in
+    λ i. (n, f n p.0 i) ∷ others_same ss new c ns f p.1 i
+
+added_behind : (new : List Setting) (b : Bool) (n : Name) (ns more : List Name) → map (bounds_of new) (cond b (n ∷ ns) (n ∷ more)) ≡ bounds_of new n ∷ map (bounds_of new) (cond b ns more)
+added_behind new true n ns more = refl
+added_behind new false n ns more = refl
+
+put_by : (b : Bool) (ss new : List Setting) (c : Name) (x : Column) (n : Name) (ns : List Name) → bytes_eq c n ≡ b → OthersSame ss new c → x ≡ column_bounds new c → has ns n ≡ false
+    → put (map (bounds_of ss) ns) c x ≡ map (bounds_of new) (add_name ns c)
+    → cond b ((n, x) ∷ map (bounds_of ss) ns) (bounds_of ss n ∷ put (map (bounds_of ss) ns) c x) ≡ map (bounds_of new) (cond (b || has ns c) (n ∷ ns) (n ∷ (ns ++ c ∷ [])))
+put_by true ss new c x n ns q f e d next =
+    let same = same_name c n q in
+    let here : x ≡ column_bounds new n = e ∙ ap (column_bounds new) same in
+    let rest = others_same ss new c ns f (ap (has ns) same ∙ d) in
+    λ i. (n, here i) ∷ rest i
+put_by false ss new c x n ns q f e d next = (λ i. (n, f n q i) ∷ next i) ∙ sym (added_behind new (has ns c) n ns (ns ++ c ∷ []))
+
+put_same : (ss new : List Setting) (c : Name) (x : Column) (ns : List Name) → OthersSame ss new c → x ≡ column_bounds new c → Distinct ns → put (map (bounds_of ss) ns) c x ≡ map (bounds_of new) (add_name ns c)
+put_same ss new c x [] f e d = λ i. (c, e i) ∷ []
+put_same ss new c x (n ∷ ns) f e d = put_by (bytes_eq c n) ss new c x n ns refl f e d.0 (put_same ss new c x ns f e d.1)
+
+bounded_push : (ss : List Setting) (s : Setting) → bounded (ss ++ s ∷ []) ≡ add_name (bounded ss) s.column
+bounded_push ss s = ap (fold add_name []) (map_push columns_of ss s) ∙ fold_push add_name [] (map columns_of ss) s.column
+
+setting_step : (ss : List Setting) (s : Setting) → with_setting (bounds_known ss) s ≡ bounds_known (ss ++ s ∷ [])
+setting_step ss s =
+    let new = ss ++ s ∷ [] in
+    put_same ss new s.column (set_by s (bounds_with (bounds_known ss) s.column)) (bounded ss) (λ n q. sym (other_same ss s n (other_way s.column n q)))
+    (ap (set_by s) (bounds_same ss s.column) ∙ sym (own_same ss s)) (distinct_all [] (map columns_of ss) tt)
+    ∙ ap (map (bounds_of new)) (sym (bounded_push ss s))
+
+settings_step : (ss more : List Setting) → with_settings (bounds_known ss) more ≡ bounds_known (ss ++ more)
+settings_step ss [] = ap bounds_known (sym (append-nil ss))
+settings_step ss (s ∷ more) =
+    ap (λ (x : Bounds). with_settings x more) (setting_step ss s) ∙ settings_step (ss ++ s ∷ []) more ∙ ap bounds_known (append_assoc ss (s ∷ []) more)
+
+-- ---- a line
+
+pub set_push : (set_on : List Name → Name) (ls : List Line) (l : Line) → first_set set_on (ls ++ l ∷ []) ≡ set_or (first_set set_on ls) (set_on l.fields)
+set_push set_on [] l = refl
+set_push set_on (x ∷ ls) l = refl
+
+settings_push : (bs : List Line) (l : Line) → settings_in (bs ++ l ∷ []) ≡ settings_in bs ++ setting_on l.number l.fields
+settings_push bs l = flat_map-append (λ (x : Line). setting_on x.number x.fields) bs (l ∷ []) ∙ ap (λ (x : List Setting). settings_in bs ++ x) (append-nil (setting_on l.number l.fields))
+
+pub bounds_push : (bs : List Line) (l : Line) → known_bounds (bs ++ l ∷ []) ≡ with_bound (known_bounds bs) l.number l.fields
+bounds_push bs l =
+    let columns = ap bounds_known (settings_push bs l) ∙ sym (settings_step (settings_in bs) (setting_on l.number l.fields)) in
+    λ i. record { set = set_push bound_set bs l i; columns = columns i }
