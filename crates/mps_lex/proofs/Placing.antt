@@ -5,7 +5,7 @@ use Rattle.mps_lex.specs.Kinds.{is_blank}
 use Rattle.mps_lex.specs.Places.{Place, begin_at, places_from}
 use Rattle.mps_lex.proofs.Cutting.{in_field, one, not_blank, counted}
 
-abbrev placed : ℕ → ℕ → List ℕ → List Place
+abbrev pub placed : ℕ → ℕ → List ℕ → List Place
 placed at n rest = (at, at + n) ∷ places_from (at + n) rest
 
 next : (blank : Bool) (at c : ℕ) (cs : List ℕ) (m : ℕ) → (blank ≡ false → places_from (at + 1) (c ∷ cs) ≡ placed (at + 1) (suc m) (drop m cs))
@@ -17,7 +17,7 @@ next false at c cs m h =
     ∙ ap (λ (k : ℕ). placed at (suc (1 + m)) (drop k (c ∷ cs))) (sym (one m))
 
 -- the first place, where no blank stands in front
-place_front : (at b : ℕ) (bs : List ℕ) → is_blank b ≡ false → places_from at (b ∷ bs) ≡ placed at (suc (prefix_len in_field bs)) (drop (prefix_len in_field bs) bs)
+pub place_front : (at b : ℕ) (bs : List ℕ) → is_blank b ≡ false → places_from at (b ∷ bs) ≡ placed at (suc (prefix_len in_field bs)) (drop (prefix_len in_field bs) bs)
 place_front at b [] h = not_blank (is_blank b) _ _ h
 place_front at b (c ∷ cs) h = not_blank (is_blank b) _ _ h ∙ next (is_blank c) at c cs (prefix_len in_field cs) (λ e. place_front (at + 1) c cs e)
 

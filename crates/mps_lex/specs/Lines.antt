@@ -36,6 +36,9 @@ pub record Line : Type 0 where
   pub fields : List Name
   pub size : ℕ
 
+abbrev pub fields_of : Line → List Name
+fields_of l = l.fields
+
 abbrev pub line_of : ℕ → List ℕ → Line
 line_of number piece = record {
   number = number;

@@ -1,5 +1,5 @@
 -- The places of fields in a text.
-use Rattle.std.specs.Prelude.{ℕ, ◌+◌, if◌then◌else◌, List, [], ◌∷◌, length, map, slice_range}
+use Rattle.std.specs.Prelude.{ℕ, ◌+◌, ◌<◌, ◌≤◌, if◌then◌else◌, List, [], ◌∷◌, length, map, slice_range}
 use Rattle.mps_lex.specs.Kinds.{Name, is_blank, ends_here, kind_of}
 use Rattle.mps_lex.specs.Lines.{pieces, content}
 use Rattle.mps_lex.specs.declared.line.Line.{Line}
@@ -37,3 +37,7 @@ word_at text p = slice_range text p.0 p.1
 
 abbrev pub words_at : List ℕ → Line → List Name
 words_at text l = map (word_at text) l.fields
+
+-- a place has bytes of the text
+abbrev pub HasBytesOf : List ℕ → Place → Type 0
+HasBytesOf text p = (p.0 < p.1) × (p.1 ≤ length text)

@@ -2,10 +2,12 @@
 #![tactic(auto)]
 
 mod kinds;
+mod laws;
 mod line;
 mod places;
 mod split;
 
 pub use kinds::is_passed;
+pub use laws::fields_are_slices;
 pub use line::{Line, LineKind, Section, SplitLine, line_of, lines};
 pub use split::first_piece;
