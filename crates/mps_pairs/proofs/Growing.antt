@@ -1,6 +1,6 @@
 -- What is known of the other sections when a line is read.
 use Rattle.std.proofs.Common.{ℕ, ◌≡◌, ◌+◌, ◌≤◌, Bool, true, false, not, ◌||◌, cond, suc, ltb, List, [], ◌∷◌, ◌++◌, length, map, Option, Some, None, refl, sym, ap, ◌∙◌, append_assoc, arith}
-use Rattle.std.proofs.lemmas.Bool.{true≢false, ltb-false, or_parts}
+use Rattle.std.proofs.lemmas.Bool.{true≢false, ltb-false}
 use Rattle.std.proofs.lemmas.List.{append-nil, map_push, map-append, length-append}
 use Rattle.std.proofs.lemmas.List.Concat.{flat_map-append}
 use Rattle.std.proofs.lemmas.List.Elements.{filter-append}
@@ -15,7 +15,7 @@ use Rattle.mps_pairs.specs.declared.fault.DeckWhy.{DeckWhy}
 use Rattle.mps_pairs.specs.declared.fault.DeckWhy.TheVariants.{ColumnSplit}
 use Rattle.mps_pairs.specs.Names.{has, place, add_name}
 use Rattle.mps_pairs.specs.Spelling.{field, RowLine, row_line, add_row, rows_of, row_named, number_of_row, Given, in_column, NamedEntry, values_on, entries_on, entries_in, rows_in, column_names, entry_at, entry_of, deck_entries, given_set, givens_on, givens_in, pair_of}
-use Rattle.mps_pairs.specs.Faults.{◌or◌, fault_if, split_fault, entry_fault, two_entries_fault, full_fault, marker_fault, column_words_fault, column_fault}
+use Rattle.mps_pairs.specs.Faults.{◌or◌, split_fault, entry_fault, two_entries_fault, full_fault, marker_fault, column_words_fault, column_fault}
 use Rattle.mps_pairs.specs.Known.{KnownColumns, last_name, known_columns, rows_here, with_name, with_entry, with_entries, with_column, known_givens, with_givens, known_pairs, with_pair}
 use Rattle.mps_pairs.proofs.KeptParts.{first_none, second_none, if_none}
 use Rattle.mps_pairs.proofs.KeptNames.{same_name, own_name, place_more, columns_push}

@@ -6,12 +6,11 @@ use Rattle.mps_lex.specs.Lines.{Line, pieces, line_of, lines_from}
 use Rattle.mps_lex.specs.declared.line.LineKind.{LineKind}
 use Rattle.mps_lex.specs.declared.line.LineKind.TheVariants.{Blank, Comment, Head, LeftOut, Unknown, Entry}
 use Rattle.mps_pairs.specs.declared.deck.Deck.{Deck}
-use Rattle.mps_pairs.specs.declared.fault.DeckWhy.{DeckWhy}
 use Rattle.mps_pairs.specs.declared.fault.DeckWhy.TheVariants.{NotClosed}
 use Rattle.mps_pairs.specs.declared.fault.DeckFault.{DeckFault}
 use Rattle.mps_pairs.specs.declared.fault.DeckFault.TheVariants.{NoMemory, At}
 use Rattle.mps_pairs.specs.declared.sections.Course.{Course}
-use Rattle.mps_pairs.specs.Sections.{Open, open_behind}
+use Rattle.mps_pairs.specs.Sections.{Open}
 use Rattle.mps_pairs.specs.Spelling.{size_of, deck_of}
 use Rattle.mps_pairs.specs.Faults.{Found, fault_of}
 use Rattle.mps_pairs.specs.Texts.{IsClean, Answer, answer, answer_from, judged, ends_deck, read_of, Refuses}
