@@ -9,10 +9,10 @@ use Rattle.std.proofs.lemmas.List.{get_or-map, length-map}
 use Rattle.std.proofs.lemmas.List.Elements.{All-nil, All-cons, All-head, All-tail, All-append, All-map, recursion_from_All}
 use Rattle.std.proofs.lemmas.List.FromFn.{length-range_with_len, length-map-range_with_len, get_or-range_with_len, length-enumerate_from, get_or-enumerate_from}
 use Rattle.std.proofs.lemmas.Option.{slice_get_within, slice_get-get_or, get_or_from_slice_get}
-use Rattle.lp_base.specs.Ascending.{ascends_by}
+use Rattle.lp_base.specs.Ascending.{ascends_by, number_of}
 use Rattle.lp_nums.specs.Fractions.{Fraction}
 use Rattle.lpcc_case.specs.declared.constraint.Constraint.{Constraint}
-use Rattle.lpcc_case.specs.Cases.{IsCase, IsConstraint, FitsCase, NamesInequality, instance_of, column_of}
+use Rattle.lpcc_case.specs.Cases.{IsCase, IsConstraint, FitsCase, NamesInequality, instance_of}
 use Rattle.lpcc_case.specs.Points.{coefficient}
 use Rattle.mps_pairs.specs.Decks.{IsDeck, IsDeckNumber, IsColumn, entries_of}
 use Rattle.mps_pairs.specs.declared.deck.Bound.{Bound}
@@ -76,7 +76,7 @@ each_narrow (c ∷ cs) h =
 
 -- the terms are such as a case takes, whatever their size
 pub record IsShaped (n : ℕ) (ts : Terms) : Type 0 where
-  pub ascending : IsTrue (ascends_by column_of ts)
+  pub ascending : IsTrue (ascends_by number_of ts)
   pub columns_named : All (λ t. t.0 < n) ts
   pub nonzero : All (λ t. t.1 ≢ pos 0) ts
 
@@ -85,7 +85,7 @@ negative_nonzero z h e = h (omega (arith, ints, ap unsigned_abs e))
 
 pub negated_shaped : (n : ℕ) (ts : Terms) → IsShaped n ts → IsShaped n (negated ts)
 negated_shaped n ts h = record {
-  ascending = ascends-map column_of (λ (t : ℕ × ℤ). (t.0, neg_ℤ t.1)) ts ∙ h.ascending;
+  ascending = ascends-map number_of (λ (t : ℕ × ℤ). (t.0, neg_ℤ t.1)) ts ∙ h.ascending;
   columns_named = All-map (λ t. t.0 < n) (λ (t : ℕ × ℤ). (t.0, neg_ℤ t.1)) ts h.columns_named;
   nonzero = All-map (λ t. t.1 ≢ pos 0) (λ (t : ℕ × ℤ). (t.0, neg_ℤ t.1)) ts (λ i d l. negative_nonzero (get_or ts i d).1 (h.nonzero i d l));
 }

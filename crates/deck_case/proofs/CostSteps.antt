@@ -6,9 +6,8 @@ use Rattle.std.proofs.lemmas.Bool.{cases_eq, eq-eqb, ne_eqb}
 use Rattle.std.proofs.lemmas.List.{take_more}
 use Rattle.std.proofs.lemmas.List.Elements.{recursion_from_All}
 use Rattle.std.specs.List.{AllByRecursion}
-use Rattle.lp_base.specs.Ascending.{ascends_by}
+use Rattle.lp_base.specs.Ascending.{ascends_by, number_of}
 use Rattle.lp_base.proofs.SumLaws.{sum_over-append}
-use Rattle.lpcc_case.specs.Cases.{column_of}
 use Rattle.deck_case.proofs.Rising.{ascends-tail, head_below}
 use Rattle.lpcc_case.specs.Points.{coefficient}
 
@@ -23,15 +22,15 @@ part_same : (t : ℕ × ℤ) (j : ℕ) → t.0 ≡ j → part j t ≡ t.1
 part_same t j h = ap (λ b. cond b t.1 (pos 0)) (eq-eqb t.0 j h)
 
 -- none of the terms before place i has the column of place i
-pub front_absent : (ts : List (ℕ × ℤ)) (i : ℕ) (d : ℕ × ℤ) → IsTrue (ascends_by column_of ts) → i < length ts → coefficient (take i ts) (get_or ts i d).0 ≡ pos 0
+pub front_absent : (ts : List (ℕ × ℤ)) (i : ℕ) (d : ℕ × ℤ) → IsTrue (ascends_by number_of ts) → i < length ts → coefficient (take i ts) (get_or ts i d).0 ≡ pos 0
 front_absent [] i d h k = absurd (omega arith)
 front_absent (t ∷ ts) zero d h k = refl
 front_absent (t ∷ ts) (suc i) d h k =
     let column = (get_or ts i d).0 in
-    let below : t.0 < column = head_below column_of t ts i d h (omega arith) in
+    let below : t.0 < column = head_below number_of t ts i d h (omega arith) in
     ap (λ z. z +ℤ coefficient (take i ts) column) (part_other t column (omega arith))
     ∙ +ℤ_idl (coefficient (take i ts) column)
-    ∙ front_absent ts i d (ascends-tail column_of t ts h) (omega arith)
+    ∙ front_absent ts i d (ascends-tail number_of t ts h) (omega arith)
 
 pub coefficient-more : (ts : List (ℕ × ℤ)) (i j : ℕ) (d : ℕ × ℤ) → i < length ts → coefficient (take (i + 1) ts) j ≡ coefficient (take i ts) j +ℤ part j (get_or ts i d)
 coefficient-more ts i j d h =
@@ -40,7 +39,7 @@ coefficient-more ts i j d h =
     ∙ ap (λ z. coefficient (take i ts) j +ℤ z) (+ℤ_idr (part j (get_or ts i d)))
 
 -- to write the value of place i at its column is to go one term on
-pub written : (row : List ℤ) (ts : List (ℕ × ℤ)) (i j : ℕ) (d : ℕ × ℤ) (z : ℤ) → IsTrue (ascends_by column_of ts) → i < length ts → j < length row → z ≡ (get_or ts i d).1 → get_or row j (pos 0) ≡ coefficient (take i ts) j → get_or (set row (get_or ts i d).0 z) j (pos 0) ≡ coefficient (take (i + 1) ts) j
+pub written : (row : List ℤ) (ts : List (ℕ × ℤ)) (i j : ℕ) (d : ℕ × ℤ) (z : ℤ) → IsTrue (ascends_by number_of ts) → i < length ts → j < length row → z ≡ (get_or ts i d).1 → get_or row j (pos 0) ≡ coefficient (take i ts) j → get_or (set row (get_or ts i d).0 z) j (pos 0) ≡ coefficient (take (i + 1) ts) j
 written row ts i j d z h k l e f =
     let t = get_or ts i d in
     let more = coefficient-more ts i j d k in
@@ -61,15 +60,15 @@ absent : (ts : List (ℕ × ℤ)) (j : ℕ) → AllByRecursion (λ t. j < t.0) t
 absent [] j h = refl
 absent (t ∷ ts) j h = ap (λ y. y +ℤ coefficient ts j) (part_other t j (omega (arith, h.0))) ∙ +ℤ_idl (coefficient ts j) ∙ absent ts j h.1
 
-pub coefficient_keeps : (P : ℤ → Type 0) (ts : List (ℕ × ℤ)) (j : ℕ) → P (pos 0) → IsTrue (ascends_by column_of ts) → AllByRecursion (λ t. P t.1) ts → P (coefficient ts j)
+pub coefficient_keeps : (P : ℤ → Type 0) (ts : List (ℕ × ℤ)) (j : ℕ) → P (pos 0) → IsTrue (ascends_by number_of ts) → AllByRecursion (λ t. P t.1) ts → P (coefficient ts j)
 coefficient_keeps P [] j none h all = none
 coefficient_keeps P (t ∷ ts) j none h all =
     elim (cases_eq t.0 j) [
       | inl same ↦
-          let above : AllByRecursion (λ u. j < u.0) ts = recursion_from_All (λ u. j < u.0) ts (λ i d k. let b : t.0 < (get_or ts i d).0 = head_below column_of t ts i d h k in omega arith) in
+          let above : AllByRecursion (λ u. j < u.0) ts = recursion_from_All (λ u. j < u.0) ts (λ i d k. let b : t.0 < (get_or ts i d).0 = head_below number_of t ts i d h k in omega arith) in
           let sum : coefficient (t ∷ ts) j ≡ t.1 = ap (λ y. part j t +ℤ y) (absent ts j above) ∙ +ℤ_idr (part j t) ∙ part_same t j same in
           subst P (sym sum) all.0
       | inr other ↦
           let sum : coefficient (t ∷ ts) j ≡ coefficient ts j = ap (λ y. y +ℤ coefficient ts j) (part_other t j other) ∙ +ℤ_idl (coefficient ts j) in
-          subst P (sym sum) (coefficient_keeps P ts j none (ascends-tail column_of t ts h) all.1)
+          subst P (sym sum) (coefficient_keeps P ts j none (ascends-tail number_of t ts h) all.1)
     ]

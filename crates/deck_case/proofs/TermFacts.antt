@@ -11,9 +11,8 @@ use Rattle.std.proofs.lemmas.List.{get_or_read}
 use Rattle.std.proofs.lemmas.List.Elements.{All-nil, All-cons, All-head, All-tail, All-append, All-filter, All-map, filter_passes}
 use Rattle.std.proofs.lemmas.List.FromFn.{get_or-map-range_with_len, length-map-range_with_len}
 use Rattle.std.proofs.lemmas.Option.{slice_get_within, get_or_from_slice_get}
-use Rattle.lp_base.specs.Ascending.{ascends_by}
+use Rattle.lp_base.specs.Ascending.{ascends_by, number_of}
 use Rattle.lp_nums.specs.Fractions.{Fraction}
-use Rattle.lpcc_case.specs.Cases.{column_of}
 use Rattle.mps_pairs.specs.Decks.{IsDeck, IsDeckNumber, IsRow, entries_of, entry_column}
 use Rattle.mps_pairs.specs.declared.deck.Deck.{Deck}
 use Rattle.mps_pairs.specs.declared.deck.Entry.{Entry}
@@ -27,8 +26,8 @@ use Rattle.deck_case.proofs.Wholes.{times_size}
 
 -- ---- terms
 
-pub terms_ascend : (m : ℕ) (es : List Entry) → IsTrue (ascends_by entry_column es) → IsTrue (ascends_by column_of (terms_of m es))
-terms_ascend m es h = ascends-map column_of (λ e. (e.column, times m e.value)) (filter is_nonzero es) ∙ ascends-filter entry_column is_nonzero es h
+pub terms_ascend : (m : ℕ) (es : List Entry) → IsTrue (ascends_by entry_column es) → IsTrue (ascends_by number_of (terms_of m es))
+terms_ascend m es h = ascends-map number_of (λ e. (e.column, times m e.value)) (filter is_nonzero es) ∙ ascends-filter entry_column is_nonzero es h
 
 pub terms_named : (m n : ℕ) (es : List Entry) → All (λ e. e.column < n) es → All (λ t. t.0 < n) (terms_of m es)
 terms_named m n es h = All-map (λ t. t.0 < n) (λ (e : Entry). (e.column, times m e.value)) (filter is_nonzero es) (All-filter is_nonzero (λ e. e.column < n) es h)

@@ -1,8 +1,7 @@
 //! The objective: the cost of each column, the constant and what both are multiplied by.
 ghost use Rattle.std.specs.Prelude.{◌≡◌, ◌<◌, ◌≤◌, ◌^◌, [], All, IfErr, IfOk, IsTrue, None, map, neg_ℤ, pos, unsigned_abs};
 ghost use Rattle.std.specs.List.{range_with_len};
-ghost use Rattle.lp_base.specs.Ascending.{ascends_by};
-ghost use Rattle.lpcc_case.specs.Cases.{column_of};
+ghost use Rattle.lp_base.specs.Ascending.{ascends_by, number_of};
 ghost use Rattle.lpcc_case.specs.Points.{coefficient};
 ghost use Rattle.mps_pairs.specs.declared.deck.Letter.TheVariants.{N};
 ghost use Rattle.mps_pairs.specs.Decks.{IsDeckNumber, entry_column};
@@ -38,7 +37,7 @@ impl Objective {
 
 /// The coefficient of each column.
 fn dense(alloc: Global, columns: usize, terms: &[(u32, i64)]) -> Result<Vec<i64>, AllocError>
-    requires ascending { IsTrue (ascends_by column_of terms.now) }
+    requires ascending { IsTrue (ascends_by number_of terms.now) }
     requires named { All (λ t. t.0 < columns) terms.now }
     ensures { IfOk result (λ row. row.items
         ≡ map (coefficient terms.now) (range_with_len 0 columns)) }

@@ -1,7 +1,6 @@
 use Rattle.std.proofs.Common.{◌<◌, ◌∙◌, subst, sym, None, All}
 use Rattle.std.specs.Prelude.{IsTrue}
-use Rattle.lp_base.specs.Ascending.{ascends_by}
-use Rattle.lpcc_case.specs.Cases.{column_of}
+use Rattle.lp_base.specs.Ascending.{ascends_by, number_of}
 use Rattle.deck_case.proofs.RowSteps.{entries_cleared, rhs_cleared, row_positive}
 use Rattle.deck_case.proofs.TermFacts.{terms_ascend, terms_named}
 use Rattle.deck_case.proofs.objective.objective_of_row.Goals as goal
@@ -21,7 +20,7 @@ terms-requires-clause-clears c = entries_cleared c.args.row.now.rhs None c.args.
 pub dense-requires-clause-ascending : goal.dense-requires-clause-ascending
 dense-requires-clause-ascending c =
     let m = c.in-Some.scale in
-    subst (λ ts. IsTrue (ascends_by column_of ts)) (sym (c.as_slice.ensures ∙ c.in_ok-terms.ensures.ok)) (terms_ascend m c.args.entries.now c.requires.ascending)
+    subst (λ ts. IsTrue (ascends_by number_of ts)) (sym (c.as_slice.ensures ∙ c.in_ok-terms.ensures.ok)) (terms_ascend m c.args.entries.now c.requires.ascending)
 
 pub dense-requires-clause-named : goal.dense-requires-clause-named
 dense-requires-clause-named c =
