@@ -1,8 +1,8 @@
 -- The numbers of columns, written term by term.
-use Rattle.std.proofs.Common.{ℕ, ◌+◌, ◌<◌, ◌≡◌, sym, ap, ◌∙◌, subst, arith, ℤ, pos, ◌+ℤ◌, IsTrue, inl, inr, List, [], length, get_or, set, take, replicate}
+use Rattle.std.proofs.Common.{ℕ, ◌+◌, ◌<◌, ◌≡◌, sym, ap, ◌∙◌, subst, arith, ℤ, pos, ◌+ℤ◌, IsTrue, inl, inr, List, length, get_or, set, take}
 use Rattle.std.specs.Prelude.{All}
 use Rattle.std.proofs.lemmas.Bool.{cases_eq}
-use Rattle.std.proofs.lemmas.List.{get_or-set_same, get_or-set_other, length-set, get_or-replicate, length-replicate}
+use Rattle.std.proofs.lemmas.List.{get_or-set_same, get_or-set_other, length-set}
 use Rattle.std.proofs.lemmas.List.FromFn.{fill_by_all}
 use Rattle.std.proofs.Math.IntN.{+ℤ_idl, +ℤ_idr}
 use Rattle.lp_base.specs.Ascending.{ascends_by}
@@ -19,16 +19,6 @@ pub record AreWritten (columns : ℕ) (numbers : List ℤ) (terms : List (ℕ ×
   pub size : length numbers ≡ columns
   pub value : (j : ℕ) → j < columns → get_or numbers j (pos 0) ≡ coefficient terms j
   pub narrow : All IsNarrow numbers
-
-narrow_zero : IsNarrow (pos 0)
-narrow_zero = omega arith
-
-pub written_none : (columns : ℕ) → AreWritten columns (replicate columns (pos 0)) (take 0 [])
-written_none columns = record {
-  size = length-replicate columns (pos 0);
-  value = λ j inside. get_or-replicate columns j (pos 0) (pos 0) inside;
-  narrow = λ k d inside. subst IsNarrow (sym (get_or-replicate columns k (pos 0) d (omega (arith, length-replicate columns (pos 0))))) narrow_zero;
-}
 
 -- one term more
 coefficient_more : (ts : List (ℕ × ℤ)) (i j : ℕ) → i < length ts → coefficient (take (i + 1) ts) j ≡ (coefficient (take i ts) j +ℤ share (get_or ts i (0, pos 0)) j)

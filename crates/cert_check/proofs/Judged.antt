@@ -1,5 +1,5 @@
 -- What the tests of single lines say of the first line that fails.
-use Rattle.std.proofs.Common.{ℕ, ◌<◌, ◌≤◌, ◌≡◌, refl, sym, ap, ◌∙◌, subst, arith, ℤ, Bool, true, false, List, length, get_or, inl, inr, map, Option, Some, None}
+use Rattle.std.proofs.Common.{ℕ, ◌<◌, ◌≤◌, ◌≡◌, refl, sym, ap, ◌∙◌, subst, arith, ℤ, Bool, true, false, List, length, get_or, inl, inr, map, Option, Some}
 use Rattle.std.specs.Prelude.{◌↔◌}
 use Rattle.std.specs.List.{range_with_len}
 use Rattle.std.proofs.lemmas.Bool.{both_ways}
@@ -18,7 +18,7 @@ use Rattle.lpcc_case.specs.declared.point.Point.{Point}
 use Rattle.lpcc_case.specs.Values.{IsValue}
 use Rattle.lpcc_case.specs.declared.verdict.Verdict.TheVariants as verdict
 use Rattle.lp_nums.specs.Fractions.{Fraction}
-use Rattle.cert_text.specs.declared.cert.Cert.TheVariants.{Optimal, Infeasible, Unbounded}
+use Rattle.cert_text.specs.declared.cert.Cert.TheVariants.{Optimal, Unbounded}
 use Rattle.lpcc_case.proofs.Meanings.{means_one}
 use Rattle.cert_text.specs.declared.cert.CertPoint.{CertPoint}
 use Rattle.cert_text.specs.declared.cert.CertLine.{CertLine}
@@ -53,10 +53,6 @@ point_read a line terms z q b read form named numbers x d value exact meets =
     let P : List (ℕ × ℤ) → Type 0 = λ ts. NamesColumns a ts × (q.x ≡ numbers_of a.columns ts) in
     let there = subst P read (named, x) in
     point_of_line a line z q b form there.0 numbers there.1 d value exact meets
-
-pub no_point : (a : Instance) (line : CertPoint) (q : Point) (b : Bool) → q.x ≡ numbers_of a.columns line.terms → q.d ≡ line.d
-    → ((p : points.Point a.columns) → Means q p → (b ≡ true) ↔ MeetsAll a p) → b ≡ false → (p : points.Point a.columns) → GivesMet a line p → ⊥
-no_point a line q b x d exact fails p gives = both_ways b fails ((exact p (means_from a line q x d p gives)).1 gives.met)
 
 -- the same, for a z that was read again
 pub line_point : (a : Instance) (line : CertPoint) (z : ℤ) (q : Point) {again : ℤ} → again ≡ z → IsPointOfLine a line again q → IsPointOfLine a line z q
@@ -126,24 +122,7 @@ optimal_accepted a line z lines f y d passes cost same none same_z same_d is =
       claims = rw (← same_z, ← same_d) is;
     }
 
--- ---- in one that no point is feasible
-
-pub infeasible_first : (a : Instance) (lines : List CertLine) (fault : CheckFault) → NamesFirst (NoGoodsFail a None lines 3) fault → RefusesAs a (Infeasible lines) fault
-infeasible_first a lines (No n why) first = record { fails = first.0; first = first.1 }
-infeasible_first a lines (NoMemory error) first = tt
-
-pub infeasible_accepted : (a : Instance) (lines : List CertLine) → ((n : ℕ) (why : NoWhy) → NoGoodsFail a None lines 3 n why → ⊥) → Accepts a (Infeasible lines) verdict.Infeasible
-infeasible_accepted a lines none = record { passes = none; claims = tt }
-
 -- ---- and in one that the cost falls without end
-
-unbounded_from : (a : Instance) (piece : List Choice) (line : CertPoint) (ray : List (ℕ × ℤ)) (n : ℕ) (why : NoWhy) → LineFails a (Unbounded piece line ray) n why → n < 3 → ⊥
-unbounded_from a piece line ray n why (inl x) before = omega (arith, x.0, before)
-unbounded_from a piece line ray n why (inr (inl x)) before = omega (arith, x.0, before)
-unbounded_from a piece line ray n why (inr (inr x)) before = omega (arith, x.0, before)
-
-pub piece_first : (a : Instance) (piece : List Choice) (line : CertPoint) (ray : List (ℕ × ℤ)) → (IsWholePiece a piece → ⊥) → Refuses a (Unbounded piece line ray) 3 NotComplementary
-piece_first a piece line ray fails = record { fails = inl (refl, refl, fails); first = λ m other before f. unbounded_from a piece line ray m other f before }
 
 piece_passed : (a : Instance) (piece : List Choice) (line : CertPoint) (ray : List (ℕ × ℤ)) (n : ℕ) (why : NoWhy) → IsWholePiece a piece → LineFails a (Unbounded piece line ray) n why → n < 4 → ⊥
 piece_passed a piece line ray n why whole (inl x) before = x.2 whole
