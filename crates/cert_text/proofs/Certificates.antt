@@ -1,9 +1,8 @@
 -- Whole certificates: what is read is spelled so, and what is spelled is read.
-use Rattle.std.proofs.Common.{◌≡◌, ℕ, ◌+◌, ◌^◌, ◌<◌, Bool, true, false, cond, List, [], ◌∷◌, ◌++◌, length, map, get_or, Option, Some, None, Result, Ok, Err, refl, sym, ap, subst, ◌∙◌, inl, inr, append_assoc, arith, ℤ}
-use Rattle.std.specs.Prelude.{All, codes, unsigned_abs}
+use Rattle.std.proofs.Common.{◌≡◌, ℕ, ◌+◌, ◌^◌, ◌<◌, Bool, true, false, cond, List, [], ◌∷◌, ◌++◌, length, map, get_or, Option, Some, None, Ok, Err, refl, sym, ap, subst, ◌∙◌, inl, inr, arith, ℤ}
+use Rattle.std.specs.Prelude.{All, codes}
 use Rattle.std.specs.Fmt.{decimal}
-use Rattle.std.specs.Prelude.{bytes_eq}
-use Rattle.std.proofs.lemmas.List.{append-nil, map-append}
+use Rattle.std.proofs.lemmas.List.{append-nil}
 use Rattle.std.proofs.lemmas.List.Elements.{All-nil, All-cons, All-head, All-tail, All-map}
 use Rattle.nogoods.specs.declared.choice.Choice.{Choice}
 use Rattle.cert_text.specs.declared.cert.Cert.{Cert}
@@ -14,9 +13,9 @@ use Rattle.cert_text.specs.declared.cert.CertLine.TheVariants as lines
 use Rattle.cert_text.specs.declared.read.Kind.{Kind}
 use Rattle.cert_text.specs.declared.read.Kind.TheVariants as kinds
 use Rattle.cert_text.specs.Certs.{IsLine, KeepsForm, lines_of}
-use Rattle.cert_text.specs.Spelling.{Word, point_words, value_words, piece_words, ray_words, line_words, end_words, log_words, cert_words, cert_lines, line_bytes, text_of, spelling}
+use Rattle.cert_text.specs.Spelling.{Word, point_words, value_words, piece_words, ray_words, line_words, end_words, log_words, cert_words, cert_lines, line_bytes, spelling}
 use Rattle.cert_text.specs.Parts.{parts}
-use Rattle.cert_text.specs.Lines.{is_comment, lines_among, tail_among, is_content, content, is_cut}
+use Rattle.cert_text.specs.Lines.{is_comment, lines_among, tail_among, is_content, is_cut}
 use Rattle.cert_text.specs.Faults.{words, is_last}
 use Rattle.cert_text.specs.Reading.{◌>>=◌, Reading, point_at, value_at, piece_at, ray_at, line_at, end_at}
 use Rattle.cert_text.specs.Steps.{Found, Left, all_lines, behind, at, line_as, head_step, kind_in, kind_step, entry_at, or_more, log_from, log_step, last_step, optimal_step, infeasible_step, unbounded_step, step_of, behind_end, cert_at}
@@ -24,8 +23,8 @@ use Rattle.cert_text.specs.Texts.{Spells}
 use Rattle.cert_text.proofs.Results.{same_ok, bind_ok, either}
 use Rattle.cert_text.proofs.Joined.{IsInLine, line_in_line, lines_joined, words_joined}
 use Rattle.cert_text.proofs.Forms.{point_takes, point_again, value_takes, value_again, piece_line_takes, piece_line_again, ray_takes, ray_again, line_takes, line_again, end_takes, end_again}
-use Rattle.cert_text.proofs.Plain.{ArePlain, plain_line, plain_end, plain_point, plain_value, plain_piece, plain_ray, IsGood, good_cert}
-use Rattle.cert_text.proofs.Stepping.{head_line, kind_line, step, line_step, kind_steps, Stepped, line_stepped, kind_stepped, line_of_words, last_by, head_takes, kind_takes, over_takes, left_of, step_again, line_as_again}
+use Rattle.cert_text.proofs.Plain.{plain_line, plain_end, plain_point, plain_value, plain_piece, plain_ray, good_cert}
+use Rattle.cert_text.proofs.Stepping.{head_line, kind_line, kind_steps, Stepped, line_stepped, kind_stepped, line_of_words, last_by, head_takes, kind_takes, over_takes, left_of, step_again, line_as_again}
 
 -- ---- no-good lines
 

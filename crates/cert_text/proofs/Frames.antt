@@ -1,5 +1,5 @@
 -- The reader names the first fault: what each step gives, against the first fault among the lines that are left.
-use Rattle.std.proofs.Common.{◌≡◌, ℕ, ◌+◌, ◌<◌, Bool, true, false, not, ◌&&◌, ◌||◌, cond, eqb, List, [], ◌∷◌, ◌++◌, length, map, Option, Some, None, Result, Ok, Err, refl, sym, ap, subst, ◌∙◌, append_assoc, arith, ℤ}
+use Rattle.std.proofs.Common.{◌≡◌, ℕ, ◌+◌, ◌<◌, Bool, true, false, not, ◌&&◌, cond, eqb, List, [], ◌∷◌, ◌++◌, length, map, Option, Some, None, Ok, Err, refl, sym, ap, subst, ◌∙◌, append_assoc, arith, ℤ}
 use Rattle.std.specs.Prelude.{bytes_eq, codes, flat_map}
 use Rattle.std.specs.Fmt.{decimal, signed_decimal}
 use Rattle.std.proofs.lemmas.Bool.{or_parts, or_from, or_left, or_right, ne_eqb}
@@ -14,10 +14,10 @@ use Rattle.cert_text.specs.declared.fault.CertWhy.TheVariants.{BadHead, BadLine,
 use Rattle.cert_text.specs.declared.read.Kind.{Kind}
 use Rattle.cert_text.specs.declared.read.Kind.TheVariants as kinds
 use Rattle.cert_text.specs.Spelling.{Word, colon, choice_word, term_words}
-use Rattle.cert_text.specs.Faults.{words, is_last, is_ended, reason, head_fault, kind_fault, log_fault, place_behind, fault_at, fault_of, end_fault}
+use Rattle.cert_text.specs.Faults.{words, is_last, is_ended, reason, head_fault, log_fault, place_behind, fault_at, fault_of, end_fault}
 use Rattle.cert_text.specs.Reading.{◌>>=◌, Reading, point_at, value_at, piece_at, ray_at, line_at, end_at}
 use Rattle.cert_text.specs.Steps.{Found, Left, behind, at, first_of, whole_line, line_as, head_of, head_step, kind_in, kind_step, entry_at, or_more, log_from, log_step, last_step, optimal_step, infeasible_step, unbounded_step, step_of, over_of, behind_end, cert_at}
-use Rattle.cert_text.proofs.Results.{same_ok, same_err}
+use Rattle.cert_text.proofs.Results.{same_err}
 use Rattle.cert_text.proofs.Relations.{numbered, or_later, first_fault}
 use Rattle.cert_text.proofs.Forms.{point_takes, value_takes, piece_line_takes, ray_takes, end_takes}
 use Rattle.cert_text.proofs.Certificates.{Entry, entry_takes}

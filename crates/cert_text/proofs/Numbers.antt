@@ -1,7 +1,7 @@
 -- Numbers: what is read is spelled so, and what is spelled is read.
-use Rattle.std.proofs.Common.{◌≡◌, ◌≢◌, ℕ, zero, suc, ◌+◌, ◌-◌, ◌*◌, ◌/◌, ◌%◌, ◌^◌, ◌<◌, ◌≤◌, Bool, true, false, cond, ltb, leb, eqb, List, [], ◌∷◌, ◌++◌, length, get_or, Result, Ok, Err, refl, sym, ap, subst, ◌∙◌, inl, inr, append_assoc, arith, ℤ, pos, negsuc, ◌≤ℤ◌}
-use Rattle.std.specs.Prelude.{neg_ℤ, unsigned_abs, All}
-use Rattle.std.specs.Char.{is_ascii_digit, digit_value}
+use Rattle.std.proofs.Common.{◌≡◌, ◌≢◌, ℕ, zero, suc, ◌+◌, ◌-◌, ◌*◌, ◌/◌, ◌%◌, ◌^◌, ◌<◌, ◌≤◌, Bool, true, false, cond, ltb, leb, eqb, List, [], ◌∷◌, ◌++◌, length, get_or, Ok, Err, refl, sym, ap, subst, ◌∙◌, inl, inr, append_assoc, arith, ℤ, pos, negsuc, ◌≤ℤ◌}
+use Rattle.std.specs.Prelude.{unsigned_abs, All}
+use Rattle.std.specs.Char.{digit_value}
 use Rattle.std.specs.Fmt.{decimal, signed_decimal, digits, digits_onto, digit_glyph}
 use Rattle.std.specs.Str.{all_ascii_digits}
 use Rattle.std.specs.Str.Parse.{AllDigits, digits_value, digits_value_after}
@@ -16,7 +16,7 @@ use Rattle.lp_base.specs.Numbers.{IsNarrow}
 use Rattle.cert_text.specs.declared.fault.CertWhy.TheVariants.{BadLine, NumberWide, BadCount}
 use Rattle.cert_text.specs.Spelling.{Word}
 use Rattle.cert_text.specs.Reading.{◌>>=◌, Reading, digits_at, natural_at, below_zero, whole_at, counted, index_at, positive, positive_at, factor, factor_at, cost_value, cost_value_at, count, count_at, from_least, number_at, hint_at}
-use Rattle.cert_text.proofs.Results.{same_ok, bind_ok, by_test, unless_test, if_test, either}
+use Rattle.cert_text.proofs.Results.{same_ok, bind_ok, by_test, unless_test, either}
 
 -- ---- digits, up to 10^64
 

@@ -1,5 +1,5 @@
 -- No word of a certificate has a space or LF, and no line of it begins with `*`.
-use Rattle.std.proofs.Common.{◌≡◌, ℕ, ◌+◌, ◌<◌, Bool, true, false, ◌&&◌, ltb, eqb, List, [], ◌∷◌, ◌++◌, length, get_or, map, refl, ap, ℤ}
+use Rattle.std.proofs.Common.{◌≡◌, ℕ, ◌+◌, ◌<◌, true, false, ltb, eqb, List, [], ◌∷◌, ◌++◌, length, get_or, map, refl, ℤ}
 use Rattle.std.specs.Prelude.{All, flat_map, codes}
 use Rattle.std.specs.Fmt.{decimal, signed_decimal}
 use Rattle.std.specs.List.{list_all}

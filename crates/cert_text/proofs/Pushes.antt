@@ -9,7 +9,7 @@ use Rattle.cert_text.specs.declared.cert.Cert.{Cert}
 use Rattle.cert_text.specs.declared.cert.Cert.TheVariants.{Optimal, Infeasible, Unbounded}
 use Rattle.cert_text.specs.declared.cert.CertPoint.{CertPoint}
 use Rattle.cert_text.specs.declared.cert.CertLine.{CertLine}
-use Rattle.cert_text.specs.Spelling.{Word, colon, choice_word, term_words, hint_word, head_words, point_words, value_words, piece_words, ray_words, line_words, end_words, log_words, cert_words, line_bytes, text_of, spelling}
+use Rattle.cert_text.specs.Spelling.{Word, colon, choice_word, term_words, hint_word, head_words, point_words, value_words, piece_words, ray_words, line_words, end_words, log_words, cert_words, line_bytes, spelling}
 use Rattle.cert_text.specs.Writing.{spaced, text_line, text_lines}
 
 pub spaced_append : (a b : List Word) → spaced (a ++ b) ≡ spaced a ++ spaced b

@@ -4,7 +4,7 @@ use Rattle.std.proofs.lemmas.List.{append-nil}
 use Rattle.cert_text.specs.declared.fault.CertWhy.{CertWhy}
 use Rattle.cert_text.specs.Lines.{content, is_cut}
 use Rattle.cert_text.specs.Faults.{fault_of, end_fault}
-use Rattle.cert_text.specs.Texts.{IsClean, FailsBehind, EndFails, Fails}
+use Rattle.cert_text.specs.Texts.{IsClean, FailsBehind, Fails}
 
 abbrev Lines : Type 0
 Lines = List (List ℕ)

@@ -1,26 +1,24 @@
 -- Lists of words: what is read is spelled so, and what is spelled is read.
-use Rattle.std.proofs.Common.{◌≡◌, ◌≢◌, ℕ, ◌+◌, ◌-◌, ◌^◌, ◌<◌, ◌≤◌, Bool, true, false, ◌&&◌, cond, ltb, eqb, List, [], ◌∷◌, ◌++◌, length, get_or, take, map, Option, Some, None, Result, Ok, Err, refl, sym, ap, subst, ◌∙◌, inl, inr, append_assoc, arith, lit<, ℤ, pos}
+use Rattle.std.proofs.Common.{◌≡◌, ◌≢◌, ℕ, ◌+◌, ◌-◌, ◌^◌, ◌<◌, ◌≤◌, Bool, true, false, cond, ltb, eqb, List, [], ◌∷◌, ◌++◌, length, get_or, take, map, Option, Some, None, Ok, Err, refl, sym, ap, subst, ◌∙◌, inl, inr, arith, lit<, ℤ, pos}
 use Rattle.std.specs.Prelude.{All, bytes_eq, flat_map}
 use Rattle.std.specs.Char.{is_ascii_digit}
 use Rattle.std.specs.Str.{all_ascii_digits}
 use Rattle.std.specs.Fmt.{decimal, signed_decimal}
-use Rattle.std.proofs.lemmas.Bool.{eqb-true, ltb-false, le-ltb, and_parts, false_from_ne_true}
+use Rattle.std.proofs.lemmas.Bool.{eqb-true, le-ltb, and_parts, false_from_ne_true}
 use Rattle.std.proofs.lemmas.Slice.Eq.{bytes_eq-Decides}
 use Rattle.std.proofs.lemmas.List.{take_more, take_all, get_or_at, take_at, length_push}
 use Rattle.std.proofs.lemmas.List.Elements.{All-nil, All-cons, All-head, All-tail, All-weaker}
-use Rattle.lp_base.specs.Ascending.{ascends_by}
 use Rattle.lp_base.specs.Numbers.{IsNarrow}
 use Rattle.nogoods.specs.declared.choice.Choice.{Choice}
 use Rattle.nogoods.specs.declared.choice.Side.{Side}
 use Rattle.nogoods.specs.declared.choice.Side.TheVariants.{A, B}
-use Rattle.nogoods.specs.Choices.{pair_of, pairs_ascend}
-use Rattle.cert_text.specs.declared.fault.CertWhy.{CertWhy}
+use Rattle.nogoods.specs.Choices.{pair_of}
 use Rattle.cert_text.specs.declared.fault.CertWhy.TheVariants.{BadLine, BadChoice}
 use Rattle.cert_text.specs.Certs.{number_of, IsNoGood, AreTerms}
 use Rattle.cert_text.specs.Spelling.{Word, side_letter, choice_word, term_words, hint_word, colon}
 use Rattle.cert_text.specs.Reading.{◌>>=◌, Reading, side_at, index_at, chosen, choice_at, number_at, factor_at, hint_at, choices_from, last_choices_from, terms_from, hints_at}
 use Rattle.cert_text.proofs.Results.{same_ok, apart, bind_ok, unless_test, if_test, either}
-use Rattle.cert_text.proofs.Ascents.{BeginsAt, Ascend, ascend_more, ascend_parts, ascend_from_zero, choices_ascend, last_choices_ascend}
+use Rattle.cert_text.proofs.Ascents.{Ascend, ascend_more, ascend_parts, ascend_from_zero, choices_ascend, last_choices_ascend}
 use Rattle.cert_text.proofs.Numbers.{decimal_digits, decimal_some, index_takes, index_again, number_takes, number_again, factor_takes, factor_again, hint_takes, hint_again}
 
 -- ---- choices

@@ -1,5 +1,5 @@
 -- Numbers as the code reads them: one that is past every limit of the text counts as 10^38.
-use Rattle.std.specs.Prelude.{◌+◌, ◌-◌, ◌*◌, ◌^◌, ℕ, ℤ, pos, negsuc, suc, neg_ℤ, nat_lt, if◌then◌else◌, List, [], ◌∷◌, Ok, Err}
+use Rattle.std.specs.Prelude.{◌+◌, ◌-◌, ◌*◌, ◌^◌, ℕ, ℤ, pos, negsuc, suc, neg_ℤ, nat_lt, if◌then◌else◌, [], ◌∷◌, Ok, Err}
 use Rattle.std.specs.Char.{is_ascii_digit}
 use Rattle.cert_text.specs.declared.fault.CertWhy.TheVariants.{BadLine}
 use Rattle.cert_text.specs.Spelling.{Word}

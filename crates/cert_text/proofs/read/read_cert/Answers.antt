@@ -1,4 +1,4 @@
-use Rattle.std.proofs.Common.{ap, subst}
+use Rattle.std.proofs.Common.{subst}
 use Rattle.cert_text.specs.Steps.{Finds, cert_at}
 use Rattle.cert_text.proofs.Clauses.{given_spelled, given_only, given_fails, given_only_fails}
 use Rattle.cert_text.proofs.read.read_cert.Goals as goal

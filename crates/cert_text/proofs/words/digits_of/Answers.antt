@@ -1,5 +1,5 @@
 use Rattle.std.proofs.Common.{rules}
-use Rattle.cert_text.proofs.Caps.{digit_refused, digit_goes_on, digits_end}
+use Rattle.cert_text.proofs.Caps.{digit_refused, digits_end}
 use Rattle.cert_text.proofs.words.digits_of.Goals as goal
 
 pub returns-in_err-value-clause-value : goal.returns-in_err-value-clause-value

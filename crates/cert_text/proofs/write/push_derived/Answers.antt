@@ -1,8 +1,8 @@
 use Rattle.cert_text.proofs.Pushes.{three, on_ok, derived_is, hints_text}
 use Rattle.std.specs.Prelude.{codes}
-use Rattle.std.proofs.Common.{[], ◌∷◌, ◌++◌, ◌∙◌, ap, map, rules}
+use Rattle.std.proofs.Common.{[], ◌∷◌, ◌++◌, map}
 use Rattle.cert_text.specs.Spelling.{choice_word, colon, hint_word}
-use Rattle.cert_text.specs.Writing.{spaced, text_line, text_lines}
+use Rattle.cert_text.specs.Writing.{spaced}
 use Rattle.cert_text.proofs.write.push_derived.Goals as goal
 
 pub returns : goal.returns

@@ -1,8 +1,8 @@
 use Rattle.cert_text.proofs.Pushes.{two, on_ok, infeasible_is}
 use Rattle.std.specs.Prelude.{codes}
-use Rattle.std.proofs.Common.{[], ◌∷◌, ◌++◌, ◌∙◌, ap, map, rules}
+use Rattle.std.proofs.Common.{[], ◌∷◌}
 use Rattle.cert_text.specs.Spelling.{head_words, log_words}
-use Rattle.cert_text.specs.Writing.{spaced, text_line, text_lines}
+use Rattle.cert_text.specs.Writing.{text_lines}
 use Rattle.cert_text.proofs.write.push_infeasible.Goals as goal
 
 pub returns : goal.returns

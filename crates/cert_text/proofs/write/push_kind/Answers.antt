@@ -1,6 +1,6 @@
 use Rattle.cert_text.proofs.Pushes.{three, on_ok, kind_is}
 use Rattle.std.specs.Prelude.{codes}
-use Rattle.std.proofs.Common.{[], ◌∷◌, ◌++◌, ◌∙◌, ap, map, rules}
+use Rattle.std.proofs.Common.{[], ◌∷◌}
 use Rattle.cert_text.proofs.write.push_kind.Goals as goal
 
 pub returns : goal.returns

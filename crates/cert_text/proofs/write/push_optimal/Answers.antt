@@ -2,9 +2,9 @@ use Rattle.cert_text.proofs.Pushes.{four, on_ok, optimal_is}
 use Rattle.std.proofs.lemmas.Int.{to_z-of_z}
 use mir.Syntax.{w128}
 use Rattle.std.specs.Prelude.{codes}
-use Rattle.std.proofs.Common.{[], ◌∷◌, ◌++◌, ◌∙◌, ap, map, rules}
+use Rattle.std.proofs.Common.{[], ◌∷◌, ◌++◌, ◌∙◌, ap, rules}
 use Rattle.cert_text.specs.Spelling.{head_words, point_words, value_words, log_words}
-use Rattle.cert_text.specs.Writing.{spaced, text_line, text_lines}
+use Rattle.cert_text.specs.Writing.{text_line, text_lines}
 use Rattle.cert_text.proofs.write.push_optimal.Goals as goal
 
 pub returns : goal.returns

@@ -1,6 +1,6 @@
 use Rattle.cert_text.proofs.Pushes.{three, on_ok, line_is, choices_text}
 use Rattle.std.specs.Prelude.{codes}
-use Rattle.std.proofs.Common.{[], ◌∷◌, ◌++◌, ◌∙◌, ap, map, rules}
+use Rattle.std.proofs.Common.{[], ◌∷◌, ◌++◌, ◌∙◌, ap, map}
 use Rattle.cert_text.specs.Spelling.{choice_word}
 use Rattle.cert_text.proofs.write.push_piece.Goals as goal
 

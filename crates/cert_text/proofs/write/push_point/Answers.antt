@@ -1,10 +1,10 @@
 use Rattle.cert_text.proofs.Pushes.{three, on_ok, point_is}
 use Rattle.lp_base.proofs.Machine.{again_64}
 use Rattle.std.specs.Prelude.{codes, flat_map}
-use Rattle.std.specs.Fmt.{decimal, signed_decimal}
-use Rattle.std.proofs.Common.{[], ◌∷◌, ◌++◌, ◌∙◌, ap, map, rules}
+use Rattle.std.specs.Fmt.{signed_decimal}
+use Rattle.std.proofs.Common.{[], ◌∷◌, ◌++◌, ◌∙◌, ap, rules}
 use Rattle.cert_text.specs.Spelling.{colon, term_words}
-use Rattle.cert_text.specs.Writing.{spaced, text_line, text_lines}
+use Rattle.cert_text.specs.Writing.{spaced}
 use Rattle.cert_text.proofs.write.push_point.Goals as goal
 
 pub returns : goal.returns

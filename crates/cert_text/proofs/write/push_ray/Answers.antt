@@ -1,8 +1,8 @@
 use Rattle.cert_text.proofs.Pushes.{two, on_ok, ray_is}
 use Rattle.std.specs.Prelude.{codes, flat_map}
-use Rattle.std.proofs.Common.{[], ◌∷◌, ◌++◌, ◌∙◌, ap, map, rules}
+use Rattle.std.proofs.Common.{[], ◌∷◌, ◌++◌}
 use Rattle.cert_text.specs.Spelling.{term_words}
-use Rattle.cert_text.specs.Writing.{spaced, text_line, text_lines}
+use Rattle.cert_text.specs.Writing.{spaced}
 use Rattle.cert_text.proofs.write.push_ray.Goals as goal
 
 pub returns : goal.returns

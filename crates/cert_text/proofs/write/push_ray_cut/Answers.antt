@@ -1,8 +1,8 @@
 use Rattle.cert_text.proofs.Pushes.{two, on_ok, ray_cut_is}
 use Rattle.std.specs.Prelude.{codes, flat_map}
-use Rattle.std.proofs.Common.{[], ◌∷◌, ◌++◌, ◌∙◌, ap, map, rules}
+use Rattle.std.proofs.Common.{[], ◌∷◌, ◌++◌, map}
 use Rattle.cert_text.specs.Spelling.{choice_word, colon, term_words}
-use Rattle.cert_text.specs.Writing.{spaced, text_line, text_lines}
+use Rattle.cert_text.specs.Writing.{spaced}
 use Rattle.cert_text.proofs.write.push_ray_cut.Goals as goal
 
 pub returns : goal.returns

@@ -1,9 +1,9 @@
 use Rattle.cert_text.proofs.Pushes.{five, on_ok, unbounded_is}
 use Rattle.std.specs.Prelude.{codes}
-use Rattle.std.specs.Fmt.{decimal, signed_decimal}
-use Rattle.std.proofs.Common.{[], ◌∷◌, ◌++◌, ◌∙◌, ap, map, rules}
+use Rattle.std.specs.Fmt.{decimal}
+use Rattle.std.proofs.Common.{[], ◌∷◌}
 use Rattle.cert_text.specs.Spelling.{head_words, point_words, piece_words, ray_words}
-use Rattle.cert_text.specs.Writing.{spaced, text_line, text_lines}
+use Rattle.cert_text.specs.Writing.{text_line, text_lines}
 use Rattle.cert_text.proofs.write.push_unbounded.Goals as goal
 
 pub returns : goal.returns
