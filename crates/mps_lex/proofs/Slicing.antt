@@ -146,8 +146,7 @@ have_from text number at [] h = tt
 have_from text number at (p ∷ ps) h =
     let c = content_front p in
     let len : length p ≡ length (content p) + length c.0 = ap length c.1 ∙ length-append (content p) c.0 in
-    let all : length (joined (p ∷ ps)) ≡ length p + length (joined ps) = length-append p (joined ps) in
-    (
+    let all : length (joined (p ∷ ps)) ≡ length p + length (joined ps) = length-append p (joined ps) in (
       All-from_recursion (HasBytesOf text) (places_from at (content p)) (only_bytes text at (places_from at (content p)) (places_have text at (content p) (omega (arith, h, all, len)))),
       have_from text (number + 1) (at + length p) ps (omega (arith, h, all)),
     )

@@ -376,12 +376,7 @@ impl<'a> BoundTable<'a> {
     }
 
     /// Takes a line of BOUNDS, below these columns.
-    pub fn take(
-        &mut self,
-        columns: &Names<'a>,
-        line: u32,
-        fields: &[&'a [u8]],
-    ) -> Result<(), Fault>
+    pub fn take(&mut self, columns: &Names<'a>, line: u32, fields: &[&'a [u8]]) -> Result<(), Fault>
         ensures fault { Judges result (bound_fault columns.now self.old.set (map shown fields.now)) }
         ensures ok { OnOk result (self.new ≡ with_bound self.old line (map shown fields.now)) }
     {

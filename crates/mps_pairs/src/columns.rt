@@ -289,8 +289,11 @@ impl<'a> ColumnTable<'a> {
         requires index { index ≡ place self.old.names column.now }
         ensures fault { Judges result (two_entries_fault rows.now self.old.here row.now value.now second.now other.now or full_fault self.old.names self.old.count column.now 2) }
         ensures ok { OnOk result (self.new ≡ record {
-            names = add_name self.old.names column.now; here = (self.old.here ++ row.now ∷ []) ++ second.now ∷ []; count = (self.old.count + 1) + 1;
-            entries = (self.old.entries ++ entry_at index (value_of value.now) (number_of_row (row_named rows.now row.now))) ++ entry_at index (value_of other.now) (number_of_row (row_named rows.now second.now)) }) }
+          names = add_name self.old.names column.now;
+          here = (self.old.here ++ row.now ∷ []) ++ second.now ∷ [];
+          count = (self.old.count + 1) + 1;
+          entries = (self.old.entries ++ entry_at index (value_of value.now) (number_of_row (row_named rows.now row.now))) ++ entry_at index (value_of other.now) (number_of_row (row_named rows.now second.now));
+        }) }
     {
         match self.judge_two(rows, row, value, second, other) {
             Err(fault) => Err(fault),

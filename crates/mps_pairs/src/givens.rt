@@ -84,12 +84,7 @@ impl<'a> GivenTable<'a> {
         Ok(())
     }
 
-    fn take_one(
-        &mut self,
-        rows: &RowTable<'a>,
-        row: &'a [u8],
-        value: &'a [u8],
-    ) -> Result<(), Fault>
+    fn take_one(&mut self, rows: &RowTable<'a>, row: &'a [u8], value: &'a [u8]) -> Result<(), Fault>
         ensures fault { Judges result (one_given_fault rows.now self.old.givens row.now value.now) }
         ensures ok { OnOk result (self.new ≡ record self.old { givens = self.old.givens ++ given row.now value.now ∷ [] }) }
     {

@@ -92,11 +92,8 @@ impl Course {
             Section::Rhs => self.rhs,
             Section::Ranges => self.ranges,
             Section::Bounds => self.bounds,
-            Section::Name
-            | Section::Rows
-            | Section::Columns
-            | Section::Pairs
-            | Section::Endata => false,
+            Section::Name | Section::Rows | Section::Columns | Section::Pairs | Section::Endata =>
+                false,
         }
     }
 
