@@ -12,7 +12,7 @@ ghost use Rattle.mps_pairs.specs.Decks.{zero};
 
 use crate::bounds::BoundTable;
 use crate::columns::ColumnTable;
-use crate::deck::{Bound, Column, Deck, Letter, Row};
+use crate::deck::{Column, Deck, Letter, Row};
 use crate::fault::{DeckWhy, Fault};
 use crate::givens::GivenTable;
 use crate::names::Names;
@@ -128,19 +128,11 @@ fn deck_columns<'a>(
     let mut found = Sequence::new(alloc);
     for index in 0..names.len() {
         if let Some(name) = names.at(index) {
-            let Column {
-                lower,
-                upper,
-                fixed,
-            } = bounds.bounds(name);
-            let lower = Bound {
-                value: lower.value,
-                line: lower.line,
-            };
+            let column = bounds.bounds(name);
             found.push(Column {
-                lower,
-                upper,
-                fixed,
+                lower: column.lower,
+                upper: column.upper,
+                fixed: column.fixed,
             })?;
         }
     }
