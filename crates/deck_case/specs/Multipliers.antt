@@ -1,7 +1,6 @@
 -- Making fractions whole: the least multiplier, and what it makes of them.
 use Rattle.std.specs.Prelude.{◌≤◌, ◌<◌, ◌≤ℤ◌, All, ℕ, zero, suc, ◌+◌, ◌*◌, ◌%◌, ◌==◌, ℤ, pos, ◌*ℤ◌, Bool, IsTrue, if◌then◌else◌, List, [], ◌∷◌, int_div, unsigned_abs}
 use Rattle.std.specs.List.{list_all}
-use Rattle.std.specs.Int.{◌∣◌}
 use Rattle.lp_nums.specs.Fractions.{Fraction}
 
 -- whether m times each fraction is whole: each denominator divides m

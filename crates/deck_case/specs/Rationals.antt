@@ -22,6 +22,6 @@ abbrev pub total : List Fraction → Fraction
 total [] = record { num = pos 0; den = pos 1 }
 total (f ∷ fs) = plus f (total fs)
 
--- f is at most g
+-- f is at most g, where both denominators are positive
 abbrev pub IsAtMost : Fraction → Fraction → Type 0
 IsAtMost f g = (f.num *ℤ g.den) ≤ℤ (g.num *ℤ f.den)

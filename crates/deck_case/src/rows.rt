@@ -64,9 +64,9 @@ fn ends_with_range(letter: Letter, near: i64, multiplier: u64, range: Frac) -> O
 /// The ends of a row without a range.
 fn ends_without_range(letter: Letter, near: i64) -> Ends
     requires { letter ≢ N }
-    ensures e { letter ≡ E → result ≡ ends_of (Some near) (Some near) }
-    ensures l { letter ≡ L → result ≡ ends_of None (Some near) }
-    ensures g { letter ≡ G → result ≡ ends_of (Some near) None }
+    ensures equal { letter ≡ E → result ≡ ends_of (Some near) (Some near) }
+    ensures at_most { letter ≡ L → result ≡ ends_of None (Some near) }
+    ensures at_least { letter ≡ G → result ≡ ends_of (Some near) None }
 {
     match letter {
         Letter::E | Letter::N => Ends {
@@ -145,11 +145,11 @@ pub fn push_row(
     ensures err { IfErr result (IsFirstOf (wide_row entries.now row.now)) }
 {
     let line = row.line;
-    let Some(known) = multiplier(row.rhs, row.range, entries) else {
+    let Some(factor) = multiplier(row.rhs, row.range, entries) else {
         return Err(CaseFault::RowWide { line });
     };
-    let terms = terms(alloc, known, entries, line)?;
-    let Some(ends) = ends_of_row(known, row) else {
+    let terms = terms(alloc, factor, entries, line)?;
+    let Some(ends) = ends_of_row(factor, row) else {
         return Err(CaseFault::RowWide { line });
     };
     push_ends(alloc, is_equation(row), terms, ends, made)?;
