@@ -8,7 +8,9 @@ use Rattle.mps_pairs.specs.declared.fault.DeckWhy.{DeckWhy}
 use Rattle.mps_pairs.specs.Texts as deck_texts
 use Rattle.deck_case.specs.declared.fault.CaseFault.{CaseFault}
 use Rattle.deck_case.specs.declared.fault.CaseFault.TheVariants as case_fault
+use Rattle.mps_pairs.specs.Decks.{IsDeck}
 use Rattle.deck_case.specs.DeckCases.{HasCase}
+use Rattle.deck_case.proofs.CaseFacts.{is_case}
 use Rattle.deck_case.specs.Faults.{HasCaseFault}
 use Rattle.cert_text.specs.declared.cert.Cert.{Cert}
 use Rattle.cert_text.specs.declared.fault.CertWhy.{CertWhy}
@@ -37,6 +39,10 @@ pub record Laws : Type 0 where
   pub one_verdict : (a : Instance) (cert : Cert) (v w : Verdict) → pos 1 ≤ℤ a.scale → Accepts a cert v → Accepts a cert w → v ≡ w
   pub one_refusal : (a : Instance) (cert : Cert) (m n : ℕ) (v w : NoWhy) → Refuses a cert m v → Refuses a cert n w → (m ≡ n) × (v ≡ w)
   pub accepted_or_refused : (a : Instance) (cert : Cert) (v : Verdict) (n : ℕ) (why : NoWhy) → Accepts a cert v → Refuses a cert n why → ⊥
+
+-- the scale of a case is at least 1
+pub scale_of_case : (d : decks.Deck) (a : Instance) → IsDeck d → HasCase d a → pos 1 ≤ℤ a.scale
+scale_of_case d a keep case = subst (λ (x : Instance). pos 1 ≤ℤ x.scale) (sym case.made) (is_case d keep case.narrow case.few).scale_positive
 
 -- ---- of a certificate
 

@@ -3,10 +3,12 @@
 
 mod answer;
 mod judging;
+mod laws;
 mod running;
 mod writing;
 
 pub use answer::Answer;
 pub use judging::{MOST_BYTES, judge};
+pub use laws::an_input_has_one_answer;
 pub use running::verify;
 pub use writing::{Status, give, give_no_memory};
