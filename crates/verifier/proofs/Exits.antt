@@ -24,9 +24,9 @@ use Rattle.cert_check.specs.Acceptance.{Accepts, Refuses, RefusesAs}
 use Rattle.cert_check.specs.Answers.{GivesVerdict, GivesRefusal}
 use Rattle.verifier.specs.declared.answer.Answer.{Answer}
 use Rattle.verifier.specs.declared.answer.Answer.TheVariants.{ReadFault, TooLong, Deck, RowWide, TooMany, Certificate, No, Yes, NoMemory}
-use Rattle.verifier.specs.Causes.{IsTaken, IsCause, SpellsCase, SpellsCertified}
+use Rattle.verifier.specs.Causes.{IsTaken, IsCause}
 use Rattle.verifier.specs.Judged.{of_deck_fault, of_case_fault, of_certificate_fault, of_check_fault}
-use Rattle.verifier.proofs.Layers.{IsRead, BehindDeck, BehindCase, OfCertificate, behind_deck, from_behind_deck, behind_case, from_behind_case, of_certificate, from_certificate, rest_is}
+use Rattle.verifier.proofs.Layers.{IsRead, BehindDeck, BehindCase, OfCertificate, behind_deck, from_behind_deck, behind_case, from_behind_case, rest_is}
 
 -- the answer is `given`, unless memory is short
 abbrev pub IsGiven : Answer → Answer → Type 0
@@ -37,7 +37,6 @@ IsGiven given expected = (given ≡ NoMemory) ⊎ (given ≡ expected)
 pub deck_cause : (bytes : List ℕ) (f : DeckFault) → IsTaken bytes → deck_texts.FailsAs f bytes → (of_deck_fault f ≡ NoMemory) ⊎ IsCause bytes (of_deck_fault f)
 deck_cause bytes (deck_fault.NoMemory error) short fails = inl refl
 deck_cause bytes (deck_fault.At line why) short fails = inr (short, fails)
-
 
 read_in : decks.Deck × ℕ → deck_texts.Answer → decks.Deck × ℕ
 read_in default (Ok read) = read

@@ -1,5 +1,5 @@
 -- The causes layer by layer: what is left to show of an answer once the deck, its case and the certificate are read.
-use Rattle.std.proofs.Common.{ℕ, ◌≡◌, ◌∙◌, refl, sym, ap, subst, arith, List, length, drop, take, ◌-◌, ◌≤◌, length-drop}
+use Rattle.std.proofs.Common.{ℕ, ◌≡◌, ◌∙◌, refl, sym, subst, arith, List, length, drop, take, ◌-◌, length-drop}
 use Rattle.std.proofs.lemmas.List.{take_all}
 use Rattle.lpcc_case.specs.Instance.{Instance}
 use Rattle.mps_pairs.specs.declared.deck.Deck as decks
@@ -15,7 +15,7 @@ use Rattle.cert_text.specs.Texts as certificate_texts
 use Rattle.cert_check.specs.Acceptance.{Accepts, Refuses}
 use Rattle.verifier.specs.declared.answer.Answer.{Answer}
 use Rattle.verifier.specs.declared.answer.Answer.TheVariants.{ReadFault, TooLong, Deck, RowWide, TooMany, Certificate, No, Yes, NoMemory}
-use Rattle.verifier.specs.Causes.{IsTaken, IsCause, SpellsCase, SpellsCertified}
+use Rattle.verifier.specs.Causes.{IsTaken, IsCause, SpellsCase}
 
 -- ---- the deck
 

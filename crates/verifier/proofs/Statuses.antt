@@ -1,6 +1,6 @@
 -- What the status of a run says of its input.
 use Rattle.std.proofs.Common.{ℕ, ◌<◌, ◌≡◌, ◌∙◌, refl, sym, ap, subst, arith, List, Option, length, ◌⊎◌, inl, inr}
-use Rattle.std.specs.Prelude.{IsTrue, Some}
+use Rattle.std.specs.Prelude.{IsTrue}
 use Rattle.std.specs.Io.KnownBytes.{Appends}
 use Rattle.lp_io.specs.Faults.{Rose}
 use Rattle.lpcc_case.specs.Instance.{Instance}

@@ -1,4 +1,4 @@
-use Rattle.std.proofs.Common.{drop, sym, inr}
+use Rattle.std.proofs.Common.{drop, inr}
 use Rattle.std.proofs.lemmas.Result.{err_from_is_err_and}
 use Rattle.verifier.specs.declared.answer.Answer.{Answer as Response}
 use Rattle.verifier.specs.declared.answer.Answer.TheVariants.{Yes}
@@ -25,7 +25,7 @@ returns-in_err-case-clause-exact c =
     let read = is_read bytes deck place c.in_ok-deck.ensures.spelled c.in_ok-deck.ensures.only c.in_ok-deck.ensures.only_fails in
     let p = err_from_is_err_and c.from_residual-in_err-case.result c.from_residual-in_err-case.ensures.1 in
     rw (p.1, p.2) (λ (expected : Response) h.
-        case_exact deck (drop place bytes) c.in_err-case.field-0.0 c.in_err-case.ensures.found c.in_err-case.ensures.named expected (behind_deck bytes deck place expected c.requires read h))
+    case_exact deck (drop place bytes) c.in_err-case.field-0.0 c.in_err-case.ensures.found c.in_err-case.ensures.named expected (behind_deck bytes deck place expected c.requires read h))
 
 pub returns-in_err-cert-clause-cause : goal.returns-in_err-cert-clause-cause
 returns-in_err-cert-clause-cause c =
@@ -52,7 +52,7 @@ returns-in_err-cert-clause-exact c =
     let found = found_of bytes deck place a c.requires read c.in_ok-case.ensures.exact (λ fault h. not_refused a (c.in_ok-case.ensures.refused fault h)) in
     let p = err_from_is_err_and c.from_residual-in_err-cert.result c.from_residual-in_err-cert.ensures.1 in
     rw (p.1, p.2) (λ (expected : Response) h.
-        certificate_exact a rest f c.in_err-cert.ensures.only c.in_err-cert.ensures.only_fails expected (of_bytes bytes deck place a rest expected found h))
+    certificate_exact a rest f c.in_err-cert.ensures.only c.in_err-cert.ensures.only_fails expected (of_bytes bytes deck place a rest expected found h))
 
 pub returns-in_err-verdict-clause-cause : goal.returns-in_err-verdict-clause-cause
 returns-in_err-verdict-clause-cause c =
@@ -81,8 +81,8 @@ returns-in_err-verdict-clause-exact c =
     let found = found_of bytes deck place a c.requires read c.in_ok-case.ensures.exact (λ fault h. not_refused a (c.in_ok-case.ensures.refused fault h)) in
     let p = err_from_is_err_and c.from_residual-in_err-verdict.result c.from_residual-in_err-verdict.ensures.1 in
     rw (p.1, p.2) (λ (expected : Response) h.
-        refusal_exact a cert f c.in_err-verdict.ensures.only_accepted c.in_err-verdict.ensures.only_refused expected
-            (of_certificate a rest cert expected (λ other s. one_spelled rest cert other (c.in_ok-cert.ensures.only other s)) (λ line why s. none_fails cert line why (c.in_ok-cert.ensures.only_fails line why s)) (of_bytes bytes deck place a rest expected found h)))
+    refusal_exact a cert f c.in_err-verdict.ensures.only_accepted c.in_err-verdict.ensures.only_refused expected
+    (of_certificate a rest cert expected (λ other s. one_spelled rest cert other (c.in_ok-cert.ensures.only other s)) (λ line why s. none_fails cert line why (c.in_ok-cert.ensures.only_fails line why s)) (of_bytes bytes deck place a rest expected found h)))
 
 pub returns-clause-cause : goal.returns-clause-cause
 returns-clause-cause c =
@@ -109,5 +109,5 @@ returns-clause-exact c =
     let read = is_read bytes deck place c.in_ok-deck.ensures.spelled c.in_ok-deck.ensures.only c.in_ok-deck.ensures.only_fails in
     let found = found_of bytes deck place a c.requires read c.in_ok-case.ensures.exact (λ fault h. not_refused a (c.in_ok-case.ensures.refused fault h)) in
     λ (expected : Response) h.
-        accepted_exact a cert verdict c.in_ok-verdict.ensures.only_accepted c.in_ok-verdict.ensures.only_refused expected
-            (of_certificate a rest cert expected (λ other s. one_spelled rest cert other (c.in_ok-cert.ensures.only other s)) (λ line why s. none_fails cert line why (c.in_ok-cert.ensures.only_fails line why s)) (of_bytes bytes deck place a rest expected found h))
+    accepted_exact a cert verdict c.in_ok-verdict.ensures.only_accepted c.in_ok-verdict.ensures.only_refused expected
+    (of_certificate a rest cert expected (λ other s. one_spelled rest cert other (c.in_ok-cert.ensures.only other s)) (λ line why s. none_fails cert line why (c.in_ok-cert.ensures.only_fails line why s)) (of_bytes bytes deck place a rest expected found h))
