@@ -26,7 +26,11 @@ pub struct Objective {
 
 impl Objective {
     /// No columns and no constant.
-    pub fn empty(alloc: Global) -> Objective {
+    pub fn empty(alloc: Global) -> Objective
+        ensures cost { result.cost ≡ [] }
+        ensures scale { result.scale ≡ pos 1 }
+        ensures offset { result.offset ≡ pos 0 }
+    {
         Objective {
             cost: Sequence::new(alloc),
             scale: 1,
