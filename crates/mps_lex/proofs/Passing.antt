@@ -1,9 +1,8 @@
 -- Lines that are blank or comments.
-use Rattle.std.proofs.Common.{ℕ, ◌≡◌, Bool, true, false, ◌&&◌, cond, eqb, List, [], ◌∷◌, Option, Some, None, refl, ap, sym, ◌∙◌, ◌<◌, length, get_or, arith}
+use Rattle.std.proofs.Common.{ℕ, ◌≡◌, Bool, true, false, ◌&&◌, cond, eqb, List, [], ◌∷◌, Option, Some, None, refl, sym, ◌∙◌, ◌<◌, length, get_or, arith}
 use Rattle.std.specs.List.{list_all}
 use Rattle.std.specs.Str.{bytes_eq}
 use Rattle.std.specs.Prelude.{codes}
-use Rattle.mps_lex.specs.declared.line.LineKind.{LineKind}
 use Rattle.mps_lex.specs.declared.line.LineKind.TheVariants.{Comment, Head, LeftOut}
 use Rattle.mps_lex.specs.declared.line.Section.TheVariants.{Name as NameSection}
 use Rattle.mps_lex.specs.declared.line.Section.{Section}

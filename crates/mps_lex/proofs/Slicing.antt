@@ -1,15 +1,15 @@
 -- The bytes at the places of fields are the fields.
-use Rattle.std.proofs.Common.{ℕ, zero, suc, ◌+◌, ◌-◌, ◌≡◌, ◌<◌, ◌≤◌, Bool, true, false, not, cond, eqb, List, [], ◌∷◌, ◌++◌, length, map, take, drop, refl, ap, sym, subst, ◌∙◌, append_assoc, arith}
-use Rattle.std.proofs.lemmas.List.{length-append, append-nil}
+use Rattle.std.proofs.Common.{ℕ, zero, suc, ◌+◌, ◌-◌, ◌≡◌, ◌≤◌, Bool, true, false, cond, eqb, List, [], ◌∷◌, ◌++◌, length, map, take, drop, refl, ap, sym, ◌∙◌, append_assoc, arith}
+use Rattle.std.proofs.lemmas.List.{length-append}
 use Rattle.std.proofs.lemmas.List.Elements.{All-from_recursion}
-use Rattle.std.specs.Prelude.{All, slice_range}
+use Rattle.std.specs.Prelude.{All}
 use Rattle.std.specs.List.{AllByRecursion, prefix_len}
 use Rattle.mps_lex.specs.declared.line.Line as placed
 use Rattle.mps_lex.specs.Kinds.{Name, is_blank, ends_here, fields, onto_field}
-use Rattle.mps_lex.specs.Lines.{Line, onto_first, pieces, without_end, content, fields_of, line_of, lines_from, lines_of}
-use Rattle.mps_lex.specs.Places.{Place, begin_at, places_from, placed_line, placed_from, placed_lines, word_at, words_at, HasBytesOf}
+use Rattle.mps_lex.specs.Lines.{onto_first, pieces, without_end, content, fields_of, lines_from, lines_of}
+use Rattle.mps_lex.specs.Places.{Place, begin_at, places_from, placed_from, placed_lines, word_at, words_at, HasBytesOf}
 use Rattle.mps_lex.proofs.Cutting.{in_field}
-use Rattle.mps_lex.proofs.Placing.{placed as placed_at, place_front}
+use Rattle.mps_lex.proofs.Placing.{place_front}
 
 -- ---- the bytes of a field
 

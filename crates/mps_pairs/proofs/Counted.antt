@@ -1,20 +1,20 @@
 -- The counts of rows, when a row is added.
-use Rattle.std.proofs.Common.{ℕ, suc, ◌+◌, ◌≡◌, ◌≤◌, Bool, true, false, not, ◌||◌, ◌&&◌, cond, List, [], ◌∷◌, ◌++◌, leb, length, map, Option, Some, None, is_some, refl, ap, sym, subst, ◌∙◌, arith}
-use Rattle.std.proofs.lemmas.List.{length-append, map_push}
+use Rattle.std.proofs.Common.{ℕ, ◌+◌, ◌≡◌, ◌≤◌, Bool, true, false, not, ◌||◌, ◌&&◌, cond, List, [], ◌∷◌, ◌++◌, leb, length, map, Some, None, is_some, refl, ap, sym, subst, ◌∙◌, arith}
+use Rattle.std.proofs.lemmas.List.{length-append}
 use Rattle.std.proofs.lemmas.List.Elements.{filter-append}
 use Rattle.std.proofs.lemmas.List.Folds.{list_any-append}
 use Rattle.std.proofs.lemmas.List.Sums.{sum_by-append}
 use Rattle.std.proofs.lemmas.Bool.{leb-false}
-use Rattle.std.specs.Prelude.{count_by, filter}
-use Rattle.std.specs.List.{list_any, sum_by}
+use Rattle.std.specs.Prelude.{count_by}
+use Rattle.std.specs.List.{sum_by}
 use Rattle.mps_pairs.specs.declared.deck.Letter.{Letter}
 use Rattle.mps_pairs.specs.declared.fault.DeckWhy.TheVariants.{TooMany}
 use Rattle.mps_pairs.specs.Faults.{many_rows_fault}
 use Rattle.mps_pairs.proofs.KeptParts.{if_none}
 use Rattle.mps_lex.specs.Kinds.{Name}
 use Rattle.mps_pairs.specs.declared.rows.RowState.{RowState}
-use Rattle.mps_pairs.specs.Names.{put, named}
-use Rattle.mps_pairs.specs.Seen.{seen_row, state_of}
+use Rattle.mps_pairs.specs.Names.{put}
+use Rattle.mps_pairs.specs.Seen.{seen_row}
 use Rattle.mps_pairs.specs.Spelling.{RowLine, is_n, has_objective, kept, number_behind, other_rows, row_named, letter_of}
 use Rattle.mps_pairs.proofs.Placed.{row_put}
 

@@ -1,9 +1,9 @@
 -- Names at their places, and what is known of names.
-use Rattle.std.proofs.Common.{ℕ, zero, suc, ◌+◌, ◌≡◌, ◌<◌, ◌≤◌, Bool, true, false, not, ◌||◌, ◌&&◌, cond, eqb, leb, List, [], ◌∷◌, ◌++◌, length, map, Option, Some, None, is_some, refl, ap, sym, ◌∙◌, arith}
-use Rattle.std.proofs.lemmas.Bool.{lt-ltb, eq-eqb, ne_eqb, leb-false, cases_eq}
+use Rattle.std.proofs.Common.{ℕ, suc, ◌+◌, ◌≡◌, ◌≤◌, Bool, true, false, not, ◌||◌, ◌&&◌, cond, eqb, leb, List, [], ◌∷◌, ◌++◌, length, map, Option, Some, None, is_some, refl, ap, ◌∙◌, arith}
+use Rattle.std.proofs.lemmas.Bool.{eq-eqb, ne_eqb, leb-false}
 use Rattle.std.proofs.lemmas.List.{length-append, map_push}
-use Rattle.std.specs.Prelude.{option_map, nat_le}
-use Rattle.std.specs.List.{list_any, position_or_len, find}
+use Rattle.std.specs.Prelude.{option_map}
+use Rattle.std.specs.List.{list_any, position_or_len}
 use Rattle.std.specs.Str.{bytes_eq}
 use Rattle.mps_lex.specs.Kinds.{Name}
 use Rattle.mps_pairs.specs.declared.rows.RowState.{RowState}
@@ -13,7 +13,7 @@ use Rattle.mps_pairs.specs.Seen.{seen_row, state_of}
 use Rattle.mps_pairs.specs.Spelling.{Given, row_named}
 use Rattle.lp_nums.specs.Fractions.{Fraction}
 use Rattle.mps_pairs.specs.Known.{KnownGivens}
-use Rattle.mps_pairs.specs.Faults.{fault_if, full_fault}
+use Rattle.mps_pairs.specs.Faults.{full_fault}
 use Rattle.mps_pairs.proofs.KeptNames.{place_has}
 use Rattle.mps_pairs.proofs.KeptParts.{if_none}
 

@@ -5,8 +5,7 @@ use Rattle.mps_lex.specs.Shown.{shown}
 use Rattle.mps_lex.specs.Kinds.{Name}
 use Rattle.mps_pairs.specs.declared.fault.DeckWhy.TheVariants.{FieldCount}
 use Rattle.mps_pairs.specs.Spelling.{RowLine, Given}
-use Rattle.mps_pairs.specs.Faults.{column_words_fault, givens_fault, pair_fault, row_fault}
-use Rattle.mps_pairs.specs.declared.deck.Column.{Column}
+use Rattle.mps_pairs.specs.Faults.{column_words_fault, givens_fault}
 
 abbrev pub Slice : Type 0
 Slice = Bor (List ℕ)

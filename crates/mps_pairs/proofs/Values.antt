@@ -1,5 +1,5 @@
 -- The value of a decimal text is the one fraction in lowest terms of its value.
-use Rattle.std.proofs.Common.{ℕ, suc, ◌≡◌, ◌∙◌, sym, arith, List, ℤ, pos, negsuc, ◌≤ℤ◌}
+use Rattle.std.proofs.Common.{ℕ, suc, ◌≡◌, sym, arith, List, ℤ, pos, negsuc, ◌≤ℤ◌}
 use Rattle.std.proofs.lemmas.Int.{ints}
 use Rattle.lp_nums.specs.Fractions.{Fraction, IsReduced, SameValue}
 use Rattle.lp_nums.specs.Decimals.{times_power_of_ten, spelled}

@@ -1,5 +1,5 @@
 -- The bounds of columns, by the lines of BOUNDS.
-use Rattle.std.specs.Prelude.{ℕ, ◌+◌, Bool, true, false, ◌&&◌, ◌==◌, min, if◌then◌else◌, List, [], ◌∷◌, map, filter, fold, Option, Some, None, codes}
+use Rattle.std.specs.Prelude.{ℕ, Bool, true, false, ◌&&◌, ◌==◌, min, if◌then◌else◌, List, [], ◌∷◌, map, filter, fold, Option, Some, None, codes}
 use Rattle.std.specs.List.{flat_map}
 use Rattle.std.specs.Str.{bytes_eq}
 use Rattle.lp_nums.specs.Fractions.{Fraction}

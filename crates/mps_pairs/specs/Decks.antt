@@ -1,5 +1,5 @@
 -- The facts that a deck keeps.
-use Rattle.std.specs.Prelude.{◌≡◌, ◌≢◌, ◌≤◌, ◌<◌, ◌^◌, ◌==◌, ℕ, pos, Bool, true, false, List, All, IsTrue, IfSome, Option, Some, filter, length, slice_get, unsigned_abs}
+use Rattle.std.specs.Prelude.{◌≡◌, ◌≢◌, ◌≤◌, ◌<◌, ◌^◌, ◌==◌, ℕ, pos, Bool, true, false, List, All, IsTrue, IfSome, Some, filter, length, slice_get, unsigned_abs}
 use Rattle.lp_base.specs.Ascending.{ascends_by}
 use Rattle.lp_nums.specs.Fractions.{Fraction, IsReduced}
 use Rattle.mps_pairs.specs.declared.deck.Column.{Column}

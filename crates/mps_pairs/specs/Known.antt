@@ -24,7 +24,7 @@ use Rattle.mps_pairs.specs.Names.{has, add_name, named, put}
 use Rattle.mps_pairs.specs.Sections.{Open, same_section, is_begun, open_behind, open_rank, slice, may_follow}
 use Rattle.mps_pairs.specs.Spelling.{field, is_n, RowLine, row_line, rows_of, kept, NamedEntry, entries_on, entries_in, column_names, rows_in, entry_of, deck_entries, Given, given_set, givens_on, givens_in, first_set, deck_row, pair_names, pair_of, deck_pairs}
 use Rattle.mps_pairs.specs.Bounds.{Setting, setting_on, settings_in, bound_set, sets_lower, sets_upper, is_fx, lower_by, upper_by, column_bounds, bounded, below_zero_line}
-use Rattle.mps_pairs.specs.Faults.{◌or◌, fault_if, row_fault, column_fault, givens_fault, bound_fault, pair_fault, Found, named_at, below_zero_at, end_fault}
+use Rattle.mps_pairs.specs.Faults.{◌or◌, fault_if, row_fault, column_fault, givens_fault, bound_fault, pair_fault, Found, named_at, end_fault}
 
 -- ---- the order of heads
 

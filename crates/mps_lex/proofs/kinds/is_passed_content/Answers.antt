@@ -1,4 +1,4 @@
-use Rattle.std.proofs.Common.{rules, ◌∙◌}
+use Rattle.std.proofs.Common.{◌∙◌}
 use Rattle.std.proofs.lemmas.Bool.{ne_eqb}
 use Rattle.mps_lex.proofs.Passing.{passed_others}
 use Rattle.mps_lex.proofs.kinds.is_passed_content.Goals as goal

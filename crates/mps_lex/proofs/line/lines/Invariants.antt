@@ -1,4 +1,4 @@
-use Rattle.std.proofs.Common.{◌≡◌, ◌+◌, ◌<◌, ◌≤◌, ◌^◌, ◌++◌, length}
+use Rattle.std.proofs.Common.{◌≡◌, ◌+◌, ◌≤◌, ◌++◌, length}
 use Rattle.mps_lex.specs.Lines.{pieces}
 use Rattle.mps_lex.specs.Places.{placed_from, placed_lines}
 use Rattle.mps_lex.proofs.line.lines.Given as goal

@@ -1,5 +1,4 @@
-use Rattle.std.proofs.Common.{rules, ◌+◌, ◌≡◌, ◌∷◌, [], ◌++◌, ◌<◌, ap, subst, sym, ◌∙◌, length, arith, List, ℕ}
-use Rattle.mps_lex.specs.Places.{Place, places_from}
+use Rattle.std.proofs.Common.{rules, length}
 use Rattle.mps_lex.proofs.Placing.{place_found}
 use Rattle.mps_lex.proofs.places.places_of.Goals as goal
 

@@ -1,5 +1,5 @@
 use Rattle.std.proofs.Common.{sym, ◌∙◌, rules}
-use Rattle.mps_pairs.specs.Seen.{shown_row, shown_entry, seen_row}
+use Rattle.mps_pairs.specs.Seen.{shown_row, seen_row}
 use Rattle.mps_pairs.specs.Spelling.{deck_row}
 use Rattle.mps_pairs.proofs.Walking.{row_more, untold}
 use Rattle.mps_pairs.proofs.tables.deck_rows.Goals as goal

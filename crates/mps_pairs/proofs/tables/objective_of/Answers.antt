@@ -1,4 +1,3 @@
-use Rattle.std.proofs.Common.{sym, ap, ◌∙◌, length, Option, ℕ}
 use Rattle.mps_pairs.specs.Spelling.{is_n}
 use Rattle.mps_pairs.proofs.Walking.{place_or}
 use Rattle.mps_pairs.proofs.tables.objective_of.Goals as goal

@@ -1,4 +1,4 @@
-use Rattle.std.proofs.Common.{sym, ◌∙◌, subst, rules, ◌<◌, length}
+use Rattle.std.proofs.Common.{sym, ◌∙◌, rules}
 use Rattle.mps_pairs.proofs.Walking.{below_more, untold}
 use Rattle.mps_pairs.specs.Seen.{shown_entry}
 use Rattle.mps_pairs.proofs.bounds.BoundTable.below_zero.Goals as goal

@@ -1,4 +1,4 @@
-use Rattle.std.proofs.Common.{rules, ◌≡◌, length, List, ℕ}
+use Rattle.std.proofs.Common.{rules, ◌≡◌, List}
 use Rattle.std.specs.Prelude.{OnOk}
 use Rattle.mps_lex.specs.Kinds.{Name}
 use Rattle.mps_pairs.specs.Faults.{column_words_fault}
