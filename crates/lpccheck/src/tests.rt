@@ -4,7 +4,8 @@ use lp_io::{MemSink, MemSource};
 use std::alloc::Global;
 use std::test::Fail;
 
-const INPUT: &str = "ROWS\n N cost\n E r\nCOLUMNS\nRHS\n r 1\nENDATA\nlpcc-certificate 1\ninfeasible\ni : 1 1\nend 1\n";
+const INPUT: &str =
+    "ROWS\n N cost\n E r\nCOLUMNS\nRHS\n r 1\nENDATA\nlpcc-certificate 1\ninfeasible\ni : 1 1\nend 1\n";
 
 /// The status and what the sink took.
 fn answer(alloc: Global, words: &[String]) -> Result<(u8, String), Fail> {
@@ -23,7 +24,10 @@ fn words(rt: HostRuntime) -> Result<(), Fail> {
     let alloc = rt.alloc();
     let word = vec![in alloc; String::from_str(alloc, "check")?]?;
     let (status, text) = answer(alloc, &word)?;
-    assert_eq!(rt; (status, text.as_str()), (2, "words: lpccheck takes no words\n"));
+    assert_eq!(rt;
+        (status, text.as_str()),
+        (2, "words: lpccheck takes no words\n")
+    );
     let (status, text) = answer(alloc, &[])?;
     assert_eq!(rt; (status, text.as_str()), (0, "yes infeasible\n"));
     Ok(())
