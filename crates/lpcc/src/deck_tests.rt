@@ -172,7 +172,7 @@ fn market(rt: HostRuntime) -> Result<(), Fail> {
     Ok(())
 }
 
-const MARKET: &str = "* price and capacity
+pub const MARKET: &str = "* price and capacity
 NAME market one
 ROWS
  N cost

@@ -28,7 +28,7 @@ fn short_bytes(text: &str) -> &[u8]
     if bytes.len() < 4096 { bytes } else { &[] }
 }
 
-fn case_in(alloc: Global, deck: &str) -> Result<Case, Fail> {
+pub fn case_in(alloc: Global, deck: &str) -> Result<Case, Fail> {
     let (deck, _) = read_deck(alloc, short_bytes(deck))?;
     Ok(case_of(alloc, &deck)?)
 }

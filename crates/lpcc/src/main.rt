@@ -2,6 +2,8 @@
 #![tactic(auto)]
 
 #[cfg(test)]
+mod case_tests;
+#[cfg(test)]
 mod certificate_tests;
 #[cfg(test)]
 mod deck_tests;
