@@ -1,0 +1,9 @@
+//! The exact simplex method: the least cost of a linear program over whole numbers, with a cut that
+//! proves it, or a direction in which it falls without end, or why there is no answer.
+#![tactic(auto)]
+
+mod answer;
+mod simplex;
+
+pub use answer::LpAnswer;
+pub use simplex::solve;
