@@ -13,7 +13,7 @@ use Rattle.mps_pairs.specs.declared.deck.Letter.TheVariants.{N}
 use Rattle.mps_pairs.specs.declared.deck.Row.{Row}
 use Rattle.deck_case.specs.declared.fault.CaseFault.{CaseFault}
 use Rattle.deck_case.specs.CaseParts.{constraints_of_row, constraints_of_rows, row_constraints}
-use Rattle.deck_case.specs.DeckCases.{row_at, no_row}
+use Rattle.deck_case.specs.DeckPoints.{row_at, no_row}
 use Rattle.deck_case.specs.Steps.{IsFirstOf}
 use Rattle.deck_case.specs.Wide.{wide_row, wide_rows}
 use Rattle.deck_case.proofs.Numbered.{first_here, none_all, none_more, numbered_all, numbered_more}

@@ -23,7 +23,8 @@ use Rattle.mps_pairs.specs.declared.deck.Letter.{Letter}
 use Rattle.mps_pairs.specs.declared.deck.Letter.TheVariants.{N, E, L, G}
 use Rattle.mps_pairs.specs.declared.deck.Row.{Row}
 use Rattle.deck_case.specs.CaseParts.{Terms, at_least, at_most, between_ends, coefficients, column_constraints, constraints_of, constraints_of_column, constraints_of_row, cost_of, cost_terms, equal_to, fixed_at, for_bound, is_equation, lower_bound, negated, numbers_of, offset_of, row_constraints, row_multiplier, scale_of, terms_of, upper_bound}
-use Rattle.deck_case.specs.DeckCases.{case_of_deck, pair_of, row_at}
+use Rattle.deck_case.specs.DeckCases.{case_of_deck, pair_of}
+use Rattle.deck_case.specs.DeckPoints.{row_at}
 use Rattle.deck_case.specs.Multipliers.{times}
 use Rattle.deck_case.specs.Sides.{sides}
 use Rattle.deck_case.specs.Wide.{has_wide, is_wide, judged_numbers, named, whole_numbers, wide_bound, wide_column, wide_lines, wide_row, wide_rows}

@@ -12,10 +12,10 @@ use Rattle.mps_pairs.specs.declared.deck.Deck.{Deck}
 use Rattle.mps_pairs.specs.declared.deck.Entry.{Entry}
 use Rattle.mps_pairs.specs.declared.deck.Row.{Row}
 use Rattle.deck_case.specs.CaseParts.{cost_terms, offset_of, scale_of, terms_of}
-use Rattle.deck_case.specs.DeckCases.{case_of_deck, row_at}
-use Rattle.deck_case.specs.DeckPoints.{column_value, objective_value, row_value}
+use Rattle.deck_case.specs.DeckCases.{case_of_deck}
+use Rattle.deck_case.specs.DeckPoints.{column_value, objective_value, row_value, row_at}
 use Rattle.deck_case.specs.Multipliers.{times}
-use Rattle.deck_case.specs.Rationals.{minus, negative, product, total}
+use Rattle.deck_case.specs.Rationals.{negative, product, total}
 use Rattle.deck_case.specs.Steps.{IsClearedBy}
 use Rattle.deck_case.proofs.BodySteps.{row_at_is}
 use Rattle.deck_case.proofs.CaseFacts.{objective_numbers}
@@ -76,17 +76,36 @@ cost_law d p h =
     let m = scale_of (entries_of d.entries d.objective) (row_at d d.objective) in
     subst (λ w. IsOver w (pos m *ℤ pos p.d) (row_value d d.objective p)) (sym (cost_is d p h)) (objective_sum d p h).over
 
-pub value_law : (d : Deck) (p : Point (length d.columns)) (r : Row) (n : ℤ) (k : ℕ) → IsDeck d → slice_get d.rows d.objective ≡ Some r → HasValue (case_of_deck d) p n k ↔ SameValue (objective_value d r p) (record { num = n; den = pos k })
-value_law d p r n k h there =
+-- the objective with its constant is the cost with the offset, over the scale and the point's denominator
+pub record IsObjective (d : Deck) (p : Point (length d.columns)) : Type 0 where
+  pub over : IsOver (cost_at (case_of_deck d) p +ℤ ((case_of_deck d).offset *ℤ pos p.d)) ((case_of_deck d).scale *ℤ pos p.d) (objective_value d (row_at d d.objective) p)
+  pub positive : pos 1 ≤ℤ (objective_value d (row_at d d.objective) p).den
+  pub common : pos 1 ≤ℤ ((case_of_deck d).scale *ℤ pos p.d)
+
+pub objective_is : (d : Deck) (p : Point (length d.columns)) → IsDeck d → IsObjective d p
+objective_is d p h =
     let es = entries_of d.entries d.objective in
     let row = row_at d d.objective in
     let m = scale_of es row in
-    let same : row ≡ r = row_at_is d d.objective r there in
     let cleared : IsClearedBy m row.rhs = rhs_cleared row.rhs None es m (objective_numbers d h) refl in
     let less : IsClearedBy m (negative row.rhs) = record { positive = cleared.positive; divides = cleared.divides; small = cleared.small } in
     let constant : IsOver (offset_of es row *ℤ pos p.d) (pos m *ℤ pos p.d) (negative row.rhs) = subst (λ z. IsOver (z *ℤ pos p.d) (pos m *ℤ pos p.d) (negative row.rhs)) (times_negative m row.rhs cleared) (over_whole m p.d (negative row.rhs) (whole_cleared m (negative row.rhs) less)) in
-    let sum = objective_sum d p h in
-    let whole : IsOver (cost_at (case_of_deck d) p +ℤ (offset_of es row *ℤ pos p.d)) (pos m *ℤ pos p.d) (minus (row_value d d.objective p) row.rhs) = over_plus (cost_at (case_of_deck d) p) (offset_of es row *ℤ pos p.d) (pos m *ℤ pos p.d) (row_value d d.objective p) (negative row.rhs) (cost_law d p h) constant in
-    let positive = positive_product (row_value d d.objective p).den row.rhs.den sum.positive cleared.positive in
-    let iff = value_iff (cost_at (case_of_deck d) p +ℤ (offset_of es row *ℤ pos p.d)) (pos m *ℤ pos p.d) n (pos k) (minus (row_value d d.objective p) row.rhs) positive sum.common whole in
+    let sum = objective_sum d p h in record {
+      over = over_plus (cost_at (case_of_deck d) p) (offset_of es row *ℤ pos p.d) (pos m *ℤ pos p.d) (row_value d d.objective p) (negative row.rhs) (cost_law d p h) constant;
+      positive = positive_product (row_value d d.objective p).den row.rhs.den sum.positive cleared.positive;
+      common = sum.common;
+    }
+
+pub scale_positive : (d : Deck) → IsDeck d → pos 1 ≤ℤ (case_of_deck d).scale
+scale_positive d h =
+    let es = entries_of d.entries d.objective in
+    let row = row_at d d.objective in
+    let some : 0 < scale_of es row = row_positive row.rhs None es (scale_of es row) (objective_numbers d h) refl in
+    omega (arith, ints, some)
+
+pub value_law : (d : Deck) (p : Point (length d.columns)) (r : Row) (n : ℤ) (k : ℕ) → IsDeck d → slice_get d.rows d.objective ≡ Some r → HasValue (case_of_deck d) p n k ↔ SameValue (objective_value d r p) (record { num = n; den = pos k })
+value_law d p r n k h there =
+    let same : row_at d d.objective ≡ r = row_at_is d d.objective r there in
+    let is = objective_is d p h in
+    let iff = value_iff (cost_at (case_of_deck d) p +ℤ ((case_of_deck d).offset *ℤ pos p.d)) ((case_of_deck d).scale *ℤ pos p.d) n (pos k) (objective_value d (row_at d d.objective) p) is.positive is.common is.over in
     subst (λ (x : Row). HasValue (case_of_deck d) p n k ↔ SameValue (objective_value d x p) (record { num = n; den = pos k })) same iff

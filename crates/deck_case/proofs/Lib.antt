@@ -19,3 +19,4 @@ pub mod CostSums
 pub mod DeckMeaning
 pub mod Feasibility
 pub mod FaultLaws
+pub mod VerdictMeaning

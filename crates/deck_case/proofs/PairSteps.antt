@@ -10,7 +10,8 @@ use Rattle.mps_pairs.specs.declared.deck.PairLine.{PairLine}
 use Rattle.mps_pairs.specs.declared.deck.Quantity.{Quantity}
 use Rattle.mps_pairs.specs.declared.deck.Quantity.TheVariants.{Col, Row}
 use Rattle.mps_pairs.specs.declared.deck.Row as rows
-use Rattle.deck_case.specs.DeckCases.{before_column, before_row, no_row, pair_of, row_at, side_number, side_place}
+use Rattle.deck_case.specs.DeckCases.{before_column, before_row, pair_of, side_number, side_place}
+use Rattle.deck_case.specs.DeckPoints.{no_row, row_at}
 
 pub named_column : (d : Deck) (q : Quantity) (j : ℕ) → NamesQuantity d q → q ≡ Col j → j < length d.columns
 named_column d q j h e =

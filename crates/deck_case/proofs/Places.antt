@@ -19,7 +19,8 @@ use Rattle.mps_pairs.specs.declared.deck.Quantity.{Quantity}
 use Rattle.mps_pairs.specs.declared.deck.Quantity.TheVariants.{Col, Row}
 use Rattle.mps_pairs.specs.declared.deck.Row as rows
 use Rattle.deck_case.specs.CaseParts.{Terms, at_least, at_most, column_constraints, constraints_of, constraints_of_column, constraints_of_columns, constraints_of_row, fixed_at, for_bound, lower_bound, upper_bound, row_constraints, row_multiplier, terms_of}
-use Rattle.deck_case.specs.DeckCases.{before_row, is_upper, row_at, side_number, side_place}
+use Rattle.deck_case.specs.DeckCases.{before_row, is_upper, side_number, side_place}
+use Rattle.deck_case.specs.DeckPoints.{row_at}
 use Rattle.deck_case.specs.Multipliers.{times}
 use Rattle.deck_case.proofs.BodySteps.{row_at_is}
 use Rattle.deck_case.proofs.Numbered.{flat-split, numbered_more}

@@ -1,5 +1,5 @@
 -- The case of a deck.
-use Rattle.std.specs.Prelude.{◌≡◌, ◌≤◌, ◌<◌, ◌+◌, ◌&&◌, ℕ, Bool, true, false, pos, [], None, is_some, length, map, slice_index_or, take, if◌then◌else◌}
+use Rattle.std.specs.Prelude.{◌≡◌, ◌≤◌, ◌<◌, ◌+◌, ◌&&◌, ℕ, Bool, true, false, pos, [], is_some, length, map, take, if◌then◌else◌}
 use Rattle.std.specs.List.{enumerate_from}
 use Rattle.lpcc_case.specs.Cases.{instance_of}
 use Rattle.lpcc_case.specs.Instance.{Instance}
@@ -12,16 +12,10 @@ use Rattle.mps_pairs.specs.declared.deck.Quantity.{Quantity}
 use Rattle.mps_pairs.specs.declared.deck.Quantity.TheVariants.{Col, Row}
 use Rattle.mps_pairs.specs.declared.deck.Row as rows
 use Rattle.deck_case.specs.CaseParts.{constraints_of, constraints_of_columns, constraints_of_rows, cost_of, offset_of, row_constraints, scale_of}
+use Rattle.deck_case.specs.DeckPoints.{row_at}
 use Rattle.deck_case.specs.Wide.{wide_lines}
 
 -- ---- pairs
-
--- what stands where there is no row
-abbrev pub no_row : rows.Row
-no_row = record { letter = N; line = 0; rhs = record { num = pos 0; den = pos 1 }; range = None }
-
-abbrev pub row_at : Deck → ℕ → rows.Row
-row_at d i = slice_index_or d.rows i no_row
 
 -- the pair's side is the upper one
 abbrev pub is_upper : Letter → Bool

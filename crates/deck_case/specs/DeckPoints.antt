@@ -1,15 +1,23 @@
 -- What a deck says of a point x / d, in its own words and in fractions.
-use Rattle.std.specs.Prelude.{◌≡◌, ◌≢◌, ℕ, pos, All, Option, Some, IfSome, ◌⊎◌, map, slice_get, slice_index_or, length}
+use Rattle.std.specs.Prelude.{◌≡◌, ◌≢◌, ℕ, pos, All, Option, None, Some, IfSome, ◌⊎◌, map, slice_get, slice_index_or, length}
 use Rattle.lp_nums.specs.Fractions.{Fraction, SameValue}
 use Rattle.lpcc_case.specs.Points.{Point}
 use Rattle.mps_pairs.specs.Decks.{entries_of}
 use Rattle.mps_pairs.specs.declared.deck.Column.{Column}
 use Rattle.mps_pairs.specs.declared.deck.Deck.{Deck}
+use Rattle.mps_pairs.specs.declared.deck.Letter.TheVariants.{N}
 use Rattle.mps_pairs.specs.declared.deck.Quantity.{Quantity}
 use Rattle.mps_pairs.specs.declared.deck.Quantity.TheVariants.{Col, Row}
 use Rattle.mps_pairs.specs.declared.deck.Row as rows
 use Rattle.deck_case.specs.Rationals.{IsAtMost, minus, product, total}
 use Rattle.deck_case.specs.Sides.{sides}
+
+-- what stands where there is no row
+abbrev pub no_row : rows.Row
+no_row = record { letter = N; line = 0; rhs = record { num = pos 0; den = pos 1 }; range = None }
+
+abbrev pub row_at : Deck → ℕ → rows.Row
+row_at d i = slice_index_or d.rows i no_row
 
 abbrev pub column_value : {n : ℕ} → Point n → ℕ → Fraction
 column_value p j = record { num = slice_index_or p.x j (pos 0); den = pos p.d }

@@ -3,7 +3,8 @@ pub mod Rationals
 pub mod Sides
 pub mod CaseParts
 pub mod Wide
+pub mod DeckPoints
 pub mod DeckCases
 pub mod Faults
-pub mod DeckPoints
+pub mod DeckVerdicts
 pub mod Steps

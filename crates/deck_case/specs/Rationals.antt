@@ -1,5 +1,5 @@
 -- Arithmetic of fractions whose denominators are positive, in lowest terms or not.
-use Rattle.std.specs.Prelude.{pos, ◌+ℤ◌, ◌*ℤ◌, ◌≤ℤ◌, neg_ℤ, List, [], ◌∷◌, unsigned_abs}
+use Rattle.std.specs.Prelude.{pos, ◌+ℤ◌, ◌*ℤ◌, ◌≤ℤ◌, ◌<ℤ◌, neg_ℤ, List, [], ◌∷◌, unsigned_abs}
 use Rattle.lp_nums.specs.Fractions.{Fraction}
 
 abbrev pub plus : Fraction → Fraction → Fraction
@@ -25,3 +25,7 @@ total (f ∷ fs) = plus f (total fs)
 -- f is at most g, where both denominators are positive
 abbrev pub IsAtMost : Fraction → Fraction → Type 0
 IsAtMost f g = (f.num *ℤ g.den) ≤ℤ (g.num *ℤ f.den)
+
+-- f is below g, where both denominators are positive
+abbrev pub IsBelow : Fraction → Fraction → Type 0
+IsBelow f g = (f.num *ℤ g.den) <ℤ (g.num *ℤ f.den)

@@ -5,7 +5,8 @@ ghost use Rattle.lp_base.specs.Ascending.{ascends_by};
 ghost use Rattle.mps_pairs.specs.declared.deck.Letter.TheVariants.{N};
 ghost use Rattle.mps_pairs.specs.Decks.{IsDeck, IsDeckNumber, entries_of, entry_column};
 ghost use Rattle.deck_case.specs.CaseParts.{constraints_of_row, cost_of, numbers_of, offset_of, row_constraints, scale_of};
-ghost use Rattle.deck_case.specs.DeckCases.{before_row, row_at};
+ghost use Rattle.deck_case.specs.DeckCases.{before_row};
+ghost use Rattle.deck_case.specs.DeckPoints.{row_at};
 ghost use Rattle.deck_case.specs.Steps.{IsFirstOf};
 ghost use Rattle.deck_case.specs.Wide.{wide_row, wide_rows};
 

@@ -3,13 +3,16 @@ ghost use Rattle.std.specs.Prelude.{◌≡◌, ◌↔◌, ◌⊎◌, ℕ, ℤ, L
 ghost use Rattle.lp_nums.specs.Fractions.{Fraction, SameValue};
 ghost use Rattle.lpcc_case.specs.Instance.{Instance};
 ghost use Rattle.lpcc_case.specs.Points.{Point, IsFeasible, cost_at};
-ghost use Rattle.lpcc_case.specs.Verdicts.{HasValue};
+ghost use Rattle.lpcc_case.specs.Cases.{IsCase};
+ghost use Rattle.lpcc_case.specs.Verdicts.{HasValue, IsTrueOf};
+ghost use Rattle.lpcc_case.specs.declared.verdict.Verdict.{Verdict};
 ghost use Rattle.mps_pairs.specs.declared.deck.Deck.{Deck};
 ghost use Rattle.mps_pairs.specs.declared.deck.Row.{Row};
 ghost use Rattle.mps_pairs.specs.Decks.{IsDeck};
 ghost use Rattle.deck_case.specs.declared.fault.CaseFault.{CaseFault};
 ghost use Rattle.deck_case.specs.DeckCases.{HasCase, case_of_deck};
 ghost use Rattle.deck_case.specs.DeckPoints.{MeetsDeck, objective_value, row_value};
+ghost use Rattle.deck_case.specs.DeckVerdicts.{IsTrueOfDeck, relaxed, relaxed_deck};
 ghost use Rattle.deck_case.specs.Faults.{HasCaseFault};
 ghost use Rattle.deck_case.specs.Multipliers.{ArePositive, IsLeastMultiplier, multiplier};
 
@@ -54,4 +57,20 @@ pub fn fault_is_determined()
 pub fn case_exactly_without_a_fault()
     ensures one { (d : Deck) → ((a : Instance) × HasCase d a) ⊎ ((f : CaseFault) × HasCaseFault d f) }
     ensures not_both { (d : Deck) (a : Instance) (f : CaseFault) → HasCase d a → HasCaseFault d f → ⊥ }
+{}
+
+/// The verdicts that are true of the case of a deck are those that are true of the deck.
+pub fn verdicts_are_those_of_the_deck()
+    ensures { (d : Deck) (a : Instance) (v : Verdict) → IsDeck d → HasCase d a → IsTrueOf a v ↔ IsTrueOfDeck d v }
+{}
+
+/// So it is of the relaxations, in which the pairs are left out.
+pub fn relaxed_verdicts_are_those_of_the_relaxed_deck()
+    ensures { (d : Deck) (a : Instance) (v : Verdict) → IsDeck d → HasCase d a →
+        IsTrueOf (relaxed a) v ↔ IsTrueOfDeck (relaxed_deck d) v }
+{}
+
+/// The case of a deck keeps the limits of a case.
+pub fn a_decks_case_keeps_the_limits()
+    ensures { (d : Deck) (a : Instance) → IsDeck d → HasCase d a → IsCase a }
 {}

@@ -23,9 +23,10 @@ mod rows;
 use body::Body;
 pub use fault::CaseFault;
 pub use laws::{
-    case_exactly_without_a_fault, case_is_determined, cost_is_the_objective, fault_is_determined,
-    feasible_exactly_where_the_deck_is_met, multiplier_is_the_least_that_clears,
-    value_is_the_objective_with_its_constant,
+    a_decks_case_keeps_the_limits, case_exactly_without_a_fault, case_is_determined,
+    cost_is_the_objective, fault_is_determined, feasible_exactly_where_the_deck_is_met,
+    multiplier_is_the_least_that_clears, relaxed_verdicts_are_those_of_the_relaxed_deck,
+    value_is_the_objective_with_its_constant, verdicts_are_those_of_the_deck,
 };
 use lp_base::Sequence;
 use lpcc_case::Case;

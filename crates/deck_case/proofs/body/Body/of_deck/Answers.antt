@@ -5,7 +5,8 @@ use Rattle.lp_base.specs.Ascending.{ascends_by}
 use Rattle.mps_pairs.specs.declared.deck.Entry.{Entry}
 use Rattle.mps_pairs.specs.Decks.{IsDeckNumber, entries_of, entry_column}
 use Rattle.deck_case.specs.CaseParts.{cost_of, numbers_of, offset_of, scale_of}
-use Rattle.deck_case.specs.DeckCases.{before_row, row_at}
+use Rattle.deck_case.specs.DeckCases.{before_row}
+use Rattle.deck_case.specs.DeckPoints.{row_at}
 use Rattle.deck_case.specs.Steps.{IsFirstOf}
 use Rattle.deck_case.specs.Wide.{wide_rows}
 use Rattle.deck_case.proofs.BodySteps.{letter_of_objective, lines_done, lines_first, lines_more, objective_step, row_there, rows_done, rows_more, target_same}
