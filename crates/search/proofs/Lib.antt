@@ -1,0 +1,9 @@
+pub mod Tests
+pub mod WalkLaws
+pub mod Moments
+pub mod Resolving
+pub mod GrowthLaws
+pub mod ChosenLaws
+pub mod Steps
+pub mod Endings
+pub mod Sets

@@ -1,0 +1,168 @@
+//! Steps that follow from two others.
+ghost use Rattle.std.specs.Prelude.{◌≡◌, ◌<◌, ◌≤◌, ℕ, All, Contains, IsTrue, IfOk, OnErr, OnOk, Some, [], ◌∷◌, ◌++◌, false, true, length, slice_get, slice_index_or};
+ghost use Rattle.nogoods.specs.declared.choice.Choice.{Choice as ChosenSide};
+ghost use Rattle.nogoods.specs.declared.choice.Side.TheVariants as side;
+ghost use Rattle.nogoods.specs.Choices.{pairs_ascend};
+ghost use Rattle.nogoods.specs.Pieces.{Bars};
+ghost use Rattle.derivation.specs.HintRuns.{NamesBelow, closes, is_assumed};
+ghost use Rattle.derivation.specs.Logs.{no_goods};
+ghost use Rattle.search.specs.Chosen.{chosen, with_choice, IsMarked, StaysMarked};
+ghost use Rattle.search.specs.Growth.{Grown};
+ghost use Rattle.search.specs.Walks.{BarsNext};
+
+use crate::index::Index;
+use crate::prefix::choices_of;
+use derivation::Log;
+use lp_base::Sequence;
+use lpcc_case::MOST_PAIRS;
+use nogoods::{Choice, NoGood, Side};
+use std::alloc::{AllocError, Global};
+
+/// Sets a mark, if there is one for the pair.
+fn mark_pair(marks: &mut Vec<bool>, choice: Choice)
+    ensures marked { IsMarked marks.new.items choice }
+    ensures kept { StaysMarked marks.old.items marks.new.items }
+{
+    let at = choice.pair as usize;
+    if at < marks.len() {
+        marks[at] = true;
+    }
+}
+
+/// Marks the pairs of the choices.
+fn mark(marks: &mut Vec<bool>, choices: &[Choice])
+    ensures marked { All (IsMarked marks.new.items) choices.now }
+    ensures kept { StaysMarked marks.old.items marks.new.items }
+{
+    for choice in choices {
+        mark_pair(marks, *choice);
+    }
+}
+
+fn push_if(made: &mut Vec<Choice>, marked: bool, choice: Choice) -> Result<(), AllocError>
+    ensures { OnOk result (made.new.items ≡ with_choice made.old.items marked choice) }
+{
+    if marked {
+        made.push(choice)?;
+    }
+    Ok(())
+}
+
+fn choice_at(at: usize, side: Side) -> Choice
+    requires { at < MOST_PAIRS }
+    ensures { result ≡ record { pair = at; side = side } }
+{
+    Choice {
+        pair: at as u32,
+        side,
+    }
+}
+
+/// The choices of the marked pairs.
+fn chosen(alloc: Global, marks: &[bool], sides: &[Side]) -> Result<Vec<Choice>, AllocError>
+    requires same { length marks.now ≡ length sides.now }
+    requires few { length sides.now ≤ MOST_PAIRS }
+    ensures { IfOk result (λ made. made.items ≡ chosen 0 marks.now sides.now) }
+{
+    let mut made = Vec::new(alloc);
+    for at in 0..sides.len() {
+        push_if(&mut made, marks[at], choice_at(at, sides[at]))?;
+    }
+    Ok(made)
+}
+
+fn marks_of(
+    alloc: Global,
+    count: usize,
+    first: &[Choice],
+    second: &[Choice],
+) -> Result<Vec<bool>, AllocError>
+    ensures size { IfOk result (λ marks. length marks.items ≡ count) }
+    ensures first { IfOk result (λ marks. All (IsMarked marks.items) first.now) }
+    ensures second { IfOk result (λ marks. All (IsMarked marks.items) second.now) }
+{
+    let mut marks = vec![in alloc; false; count]?;
+    mark(&mut marks, first);
+    mark(&mut marks, second);
+    Ok(marks)
+}
+
+/// The choices of the sides whose pairs either list names.
+fn join(
+    alloc: Global,
+    sides: &[Side],
+    first: &[Choice],
+    second: &[Choice],
+) -> Result<Vec<Choice>, AllocError>
+    requires few { length sides.now ≤ MOST_PAIRS }
+    ensures ascending { IfOk result (λ made. pairs_ascend made.items ≡ true) }
+    ensures held { IfOk result (λ made. Bars made.items sides.now) }
+    ensures first { IfOk result (λ made. All (λ c. slice_get sides.now c.pair ≡ Some c.side → is_assumed made.items c ≡ true) first.now) }
+    ensures second { IfOk result (λ made. All (λ c. slice_get sides.now c.pair ≡ Some c.side → is_assumed made.items c ≡ true) second.now) }
+{
+    let marks = marks_of(alloc, sides.len(), first, second)?;
+    let made = chosen(alloc, marks.as_slice(), sides)?;
+    Ok(made)
+}
+
+fn no_good(alloc: Global, list: &[Choice]) -> Result<NoGood, AllocError>
+    requires { pairs_ascend list.now ≡ true }
+    ensures { IfOk result (λ made. made ≡ list.now) }
+{
+    match NoGood::from_choices(alloc, list)? {
+        Some(made) => Ok(made),
+        None => Err(AllocError),
+    }
+}
+
+fn hints_of(alloc: Global, first: usize, second: usize) -> Result<Sequence<u64>, AllocError>
+    ensures { IfOk result (λ made. made ≡ first ∷ second ∷ []) }
+{
+    let mut made = Sequence::new(alloc);
+    made.push(first as u64)?;
+    made.push(second as u64)?;
+    Ok(made)
+}
+
+/// Adds a step that follows.
+fn add(log: &mut Log, pairs: u32, ng: NoGood, hints: Sequence<u64>) -> Result<(), AllocError>
+    requires named { All (NamesBelow pairs) (no_goods log.old) }
+    requires below { NamesBelow pairs ng }
+    requires closed { closes (no_goods log.old) ng hints ≡ true }
+    ensures grown { Grown pairs log.old log.new }
+    ensures added { OnOk result (no_goods log.new ≡ no_goods log.old ++ ng ∷ []) }
+{
+    log.derive(ng, hints)
+}
+
+/// Adds the step that follows from a step that bars side A behind the sides and one that bars
+/// side B. It gives the step's number.
+pub(crate) fn resolve(
+    alloc: Global,
+    log: &mut Log,
+    index: &mut Index,
+    pairs: u32,
+    sides: &[Side],
+    first: usize,
+    second: usize,
+) -> Result<usize, AllocError>
+    requires few { pairs ≤ MOST_PAIRS }
+    requires short { length sides.now < pairs }
+    requires named { All (NamesBelow pairs) (no_goods log.old) }
+    requires first { (first < length (no_goods log.old)) × BarsNext sides.now side.A (slice_index_or (no_goods log.old) first []) }
+    requires second { (second < length (no_goods log.old)) × BarsNext sides.now side.B (slice_index_or (no_goods log.old) second []) }
+    ensures grown { Grown pairs log.old log.new }
+    ensures made { IfOk result (λ k. (k < length (no_goods log.new)) × Bars (slice_index_or (no_goods log.new) k []) sides.now) }
+{
+    let list = join(
+        alloc,
+        sides,
+        choices_of(log, first),
+        choices_of(log, second),
+    )?;
+    let hints = hints_of(alloc, first, second)?;
+    index.add(list.as_slice())?;
+    let at = log.steps().len();
+    add(log, pairs, no_good(alloc, list.as_slice())?, hints)?;
+    Ok(at)
+}
