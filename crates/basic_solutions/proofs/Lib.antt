@@ -1,0 +1,5 @@
+pub mod Shares
+pub mod Machine
+pub mod PlaceSteps
+pub mod WeightSteps
+pub mod BlameSteps
