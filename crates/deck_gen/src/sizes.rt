@@ -1,0 +1,36 @@
+//! What determines a generated deck, and the range of the sizes.
+ghost use Rattle.std.specs.Prelude.{◌↔◌, IsTrue};
+ghost use Rattle.deck_gen.specs.Generator.{IsInRange};
+
+/// What determines a generated deck: the seed of the draws, and how many columns, rows and pairs
+/// there are.
+#[derive(Clone, Copy)]
+pub struct Sizes {
+    pub seed: u64,
+    pub columns: u32,
+    pub rows: u32,
+    pub pairs: u32,
+}
+
+const MOST_COLUMNS: u64 = 1000;
+
+const MOST_ROWS: u64 = 1000;
+
+const MOST_PAIRS: u64 = 512;
+
+const MOST_ENTRIES: u64 = 200_000;
+
+/// Whether a deck of these sizes is generated: 1 to 1,000 columns and rows, at most 512 pairs and
+/// no more than half of the columns, and at most 200,000 entries, the costs among them. It takes
+/// no memory.
+pub fn in_range(columns: u64, rows: u64, pairs: u64) -> bool
+    ensures { IsTrue result ↔ IsInRange columns rows pairs }
+{
+    1 <= columns
+        && columns <= MOST_COLUMNS
+        && 1 <= rows
+        && rows <= MOST_ROWS
+        && pairs <= MOST_PAIRS
+        && 2 * pairs <= columns
+        && rows * columns + columns <= MOST_ENTRIES
+}
