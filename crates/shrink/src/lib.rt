@@ -1,0 +1,10 @@
+//! Cuts without the choices that they do not need, with a reason for each choice that stays.
+#![tactic(auto)]
+
+mod known;
+mod shrinking;
+mod shrunk;
+
+pub use known::KnownPoints;
+pub use shrinking::{shrink, shrink_with};
+pub use shrunk::Shrunk;
