@@ -4,8 +4,14 @@
 
 mod blame;
 mod duals;
+mod forms;
 mod places;
+mod point;
+mod ray;
 
 pub use blame::blamed_of;
 pub use duals::multipliers;
+pub use forms::{nonbasic_forms, nonbasic_forms_after};
 pub use places::{places_of, share};
+pub use point::point_of;
+pub use ray::ray_of;
