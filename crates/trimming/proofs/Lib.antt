@@ -1,0 +1,5 @@
+pub mod RenumberLaws
+pub mod PathLaws
+pub mod ReachLaws
+pub mod MarkLaws
+pub mod KeepLaws
