@@ -1,0 +1,4 @@
+pub mod Writes
+pub mod Elements
+pub mod Casts
+pub mod Readings
