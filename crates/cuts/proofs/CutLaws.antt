@@ -13,10 +13,10 @@ use Rattle.lpcc_case.specs.declared.constraint.Kind.TheVariants.{Ge, Eq}
 use Rattle.lpcc_case.specs.Instance.{Instance, constraint_at, no_constraint, chosen, chosen_number}
 use Rattle.lpcc_case.specs.Points as points
 use Rattle.lpcc_case.specs.Points.{Relates, Meets, MeetsAll, IsTight, IsTightAt, left_side, cost_at}
-use Rattle.lpcc_case.specs.Pieces.{LiesIn, BarsOnlyEmptyPieces}
+use Rattle.lpcc_case.specs.Pieces.{LiesIn, BarsNothingLower, BarsOnlyEmptyPieces, Improves}
 use Rattle.cuts.specs.declared.cut.Cut.{Cut}
 use Rattle.cuts.specs.declared.cut.Cut.TheVariants.{Ray, Point}
-use Rattle.cuts.specs.Cuts.{Passes, IsTrueCut, IsActive, Improves, HasSign, column_sum, right_sum, no_good_of}
+use Rattle.cuts.specs.Cuts.{Passes, IsTrueCut, IsActive, HasSign, column_sum, right_sum, no_good_of}
 use Rattle.cuts.proofs.Exchange.{weighed, weighed_across, across, across_same, across_zero, across_multiple}
 
 -- a multiplier keeps a constraint's order, where a negative one stands on what is tight
@@ -78,3 +78,7 @@ nothing_lower a (Ray ng mult) best p true_cut active met tight improves = true_c
 nothing_lower a (Point ng mult e v) None p true_cut active met tight improves = active
 nothing_lower a (Point ng mult e v) (Some q) p true_cut active met tight improves =
     not_lower e v (cost_at a p) (cost_at a q) p.d q.d true_cut.0 (true_cut.1 p met tight) active improves
+
+pub bars_nothing_lower : (a : Instance) (cut : Cut) (best : Option (points.Point a.columns)) → Passes a cut → IsActive a cut best → BarsNothingLower a best (no_good_of cut)
+bars_nothing_lower a cut best passes active sides piece bars p lies improves =
+    nothing_lower a cut best p (cut_is_true a cut passes) active lies.met (tight_in_piece a (no_good_of cut) sides p bars lies) improves

@@ -7,6 +7,7 @@ use Rattle.nogoods.specs.declared.choice.Choice.{Choice}
 use Rattle.lpcc_case.specs.declared.constraint.Kind.TheVariants.{Ge}
 use Rattle.lpcc_case.specs.Instance.{Instance, constraint_at, chosen_number}
 use Rattle.lpcc_case.specs.Pieces.{NamesPairs}
+pub use Rattle.lpcc_case.specs.Pieces.{Improves}
 use Rattle.lpcc_case.specs.Points as points
 use Rattle.cuts.specs.declared.cut.Cut.{Cut}
 use Rattle.cuts.specs.declared.cut.Cut.TheVariants.{Ray, Point}
@@ -91,8 +92,3 @@ abbrev pub IsActive : (a : Instance) → Cut → Option (points.Point a.columns)
 IsActive a (Ray ng mult) best = Unit {0}
 IsActive a (Point ng mult e v) None = ⊥
 IsActive a (Point ng mult e v) (Some p) = (e *ℤ points.cost_at a p) ≤ℤ (v *ℤ pos p.d)
-
--- lower than the best point, or there is none yet
-abbrev pub Improves : (a : Instance) → points.Point a.columns → Option (points.Point a.columns) → Type 0
-Improves a p None = Unit {0}
-Improves a p (Some best) = points.IsLower a p best

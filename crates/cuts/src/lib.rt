@@ -13,5 +13,6 @@ pub use check::{check_cut, check_point, check_ray, point_bound};
 pub use cut::{Cut, CutFault};
 pub use reason::{Reason, SpentAt, WideAt};
 pub use truth::{
-    active_cut_excludes_nothing_lower, passed_cut_is_true, true_ray_bars_only_empty_pieces,
+    active_cut_excludes_nothing_lower, passed_cut_bars_nothing_lower, passed_cut_is_true,
+    true_ray_bars_only_empty_pieces,
 };

@@ -1,22 +1,10 @@
 //! Whether the multipliers and the choices of a cut are in place.
-ghost use Rattle.std.specs.Prelude.{◌≡◌, ◌<◌, ◌↔◌, IsTrue, All, length};
-ghost use Rattle.lp_base.specs.Ascending.{ascends_by, number_of};
+ghost use Rattle.std.specs.Prelude.{◌<◌, ◌↔◌, IsTrue, All, length};
 ghost use Rattle.cuts.specs.Cuts.{AreMultipliers, IsIndexed, IsMultiplier};
-ghost use Rattle.lpcc_case.specs.Pieces.{NamesPairs};
 
-use lpcc_case::Case;
-use nogoods::{Choice, NoGood};
-
-fn is_ascending(mult: &[(u32, i64)]) -> bool
-    ensures { result ≡ ascends_by number_of mult.now }
-{
-    for i in 1..mult.len() {
-        if mult[i - 1].0 >= mult[i].0 {
-            return false;
-        }
-    }
-    true
-}
+use lp_base::is_ascending;
+use lpcc_case::{Case, names_pairs};
+use nogoods::NoGood;
 
 fn name_constraints(count: usize, mult: &[(u32, i64)]) -> bool
     ensures { IsTrue result ↔ All (λ m. m.0 < count) mult.now }
@@ -30,13 +18,6 @@ fn are_numbers(mult: &[(u32, i64)]) -> bool
     mult.iter().all(|m| m.1 != 0 && m.1 != i64::MIN)
 }
 
-fn name_pairs(case: &Case, choices: &[Choice]) -> bool
-    ensures { IsTrue result ↔ NamesPairs case.now choices.now }
-{
-    let count = case.pairs().len();
-    choices.iter().all(|choice| (choice.pair as usize) < count)
-}
-
 fn are_multipliers(case: &Case, mult: &[(u32, i64)]) -> bool
     ensures { IsTrue result ↔ AreMultipliers case.now mult.now }
 {
@@ -47,5 +28,5 @@ fn are_multipliers(case: &Case, mult: &[(u32, i64)]) -> bool
 pub fn is_indexed(case: &Case, ng: &NoGood, mult: &[(u32, i64)]) -> bool
     ensures { IsTrue result ↔ IsIndexed case.now ng.now mult.now }
 {
-    are_multipliers(case, mult) && name_pairs(case, ng.choices())
+    are_multipliers(case, mult) && names_pairs(case, ng.choices())
 }

@@ -6,24 +6,8 @@ ghost use Rattle.lpcc_case.specs.Cases.{FitsCase};
 ghost use Rattle.lpcc_case.specs.Points.{coefficient};
 ghost use Rattle.cuts.specs.Cuts.{AreMultipliers, column_sum, right_sum};
 
+use lp_base::{add_product, product};
 use lpcc_case::{Case, MOST_COLUMNS};
-
-fn product(y: i64, number: i64) -> i128
-    requires narrow { IsNarrow y }
-    requires fits { FitsCase number }
-    ensures { result ≡ y *ℤ number }
-{
-    i128::from(y) * i128::from(number)
-}
-
-fn add_product(sum: i128, y: i64, number: i64) -> i128
-    requires room { unsigned_abs sum < 2 ^ 126 }
-    requires narrow { IsNarrow y }
-    requires fits { FitsCase number }
-    ensures { result ≡ sum +ℤ (y *ℤ number) }
-{
-    sum + product(y, number)
-}
 
 /// Adds y times each term to the sum of its column.
 fn add_terms(sums: &mut [i128], y: i64, terms: &[(u32, i64)])

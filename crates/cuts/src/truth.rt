@@ -4,10 +4,10 @@ ghost use Rattle.nogoods.specs.declared.choice.Choice.{Choice};
 ghost use Rattle.lpcc_case.specs.Instance.{Instance};
 ghost use Rattle.lpcc_case.specs.Points.{MeetsAll, IsTightAt};
 ghost use Rattle.lpcc_case.specs.Points as points;
-ghost use Rattle.lpcc_case.specs.Pieces.{BarsOnlyEmptyPieces};
+ghost use Rattle.lpcc_case.specs.Pieces.{BarsNothingLower, BarsOnlyEmptyPieces, Improves};
 ghost use Rattle.cuts.specs.declared.cut.Cut.{Cut};
 ghost use Rattle.cuts.specs.declared.cut.Cut.TheVariants.{Ray};
-ghost use Rattle.cuts.specs.Cuts.{Passes, IsTrueCut, IsActive, Improves, no_good_of};
+ghost use Rattle.cuts.specs.Cuts.{Passes, IsTrueCut, IsActive, no_good_of};
 
 /// A cut that passes the test is true. Of the points that meet all constraints and are tight at
 /// each of its choices, a ray cut leaves none, and each has a value of at least the bound of a
@@ -26,4 +26,12 @@ pub fn true_ray_bars_only_empty_pieces()
 pub fn active_cut_excludes_nothing_lower()
     ensures { (a : Instance) (cut : Cut) (best : Option (points.Point a.columns)) (p : points.Point a.columns)
         → IsTrueCut a cut → IsActive a cut best → MeetsAll a p → IsTightAt a p (no_good_of cut) → Improves a p best → ⊥ }
+{}
+
+/// A cut that passes the test and is active against the best point bars only pieces in which no
+/// point is lower than it. Without a best point a ray cut alone is active, and bars only pieces
+/// without points.
+pub fn passed_cut_bars_nothing_lower()
+    ensures { (a : Instance) (cut : Cut) (best : Option (points.Point a.columns)) → Passes a cut → IsActive a cut best
+        → BarsNothingLower a best (no_good_of cut) }
 {}

@@ -1,5 +1,5 @@
 -- What the steps of a log say of pieces.
-use Rattle.std.proofs.Common.{inl, inr, ℕ, zero, suc, ◌<◌, ◌≤◌, ◌≡◌, sym, ap, ◌∙◌, subst, arith, List, [], length, get_or, take, Bool, true, false, Some, add-one}
+use Rattle.std.proofs.Common.{inl, inr, ℕ, zero, suc, ◌<◌, ◌≤◌, ◌≡◌, sym, ap, ◌∙◌, subst, arith, List, [], length, get_or, take, Bool, true, false, Option, Some, add-one}
 use Rattle.std.specs.Prelude.{All, Any, Contains, slice_get}
 use Rattle.std.specs.List.{list_all, list_any}
 use Rattle.std.proofs.lemmas.Bool.{false≢true, cases_Bool}
@@ -11,13 +11,14 @@ use Rattle.nogoods.specs.declared.choice.Choice.{Choice}
 use Rattle.nogoods.specs.declared.choice.Side.{Side}
 use Rattle.nogoods.specs.Pieces.{Bars}
 use Rattle.lpcc_case.specs.Instance.{Instance}
-use Rattle.lpcc_case.specs.Pieces.{IsPiece, HoldsNoPoint, BarsOnlyEmptyPieces}
+use Rattle.lpcc_case.specs.Points.{IsFeasible, Point}
+use Rattle.lpcc_case.specs.Pieces.{IsPiece, HoldsNoPoint, BarsNothingLower, BarsOnlyEmptyPieces, Improves}
 use Rattle.lpcc_case.specs.Verdicts.{IsInfeasible}
 use Rattle.lpcc_case.proofs.PieceLaws.{feasible-in_piece}
 use Rattle.derivation.specs.declared.step.Step.{Step}
 use Rattle.derivation.specs.declared.step.Step.TheVariants.{Start, Derived}
 use Rattle.derivation.specs.HintRuns.{NamesBelow, closes}
-use Rattle.derivation.specs.Logs.{NamesPairs, Follows, IsLog, IsBarredByStart, StartsAreTrue, StartsName, no_good_of, no_goods}
+use Rattle.derivation.specs.Logs.{NamesPairs, Follows, IsLog, IsBarredByStart, StartsAreTrue, StartsBarNothingLower, StartsName, no_good_of, no_goods}
 use Rattle.derivation.proofs.Soundness.{Fails, closes_sound}
 use Rattle.derivation.proofs.Barring.{keeps, Kept, either, kept_from_Bars, Bars_from_kept, test_from_kept, kept_from_test, closed-bars}
 
@@ -28,6 +29,12 @@ closed-true a earlier ng hints named true_before closed sides piece bars =
     let Q : ℕ → Type 0 = λ n. All (NamesBelow n) earlier in
     let found = closed-bars earlier ng hints sides (subst Q (sym piece) named) closed bars in
     All-contains (BarsOnlyEmptyPieces a) earlier found.1 true_before (found.0, found.2, found.3) sides piece found.4
+
+pub closed-nothing_lower : (a : Instance) (best : Option (Point a.columns)) (earlier : List (List Choice)) (ng : List Choice) (hints : List ℕ) → All (NamesPairs a) earlier → All (BarsNothingLower a best) earlier → closes earlier ng hints ≡ true → BarsNothingLower a best ng
+closed-nothing_lower a best earlier ng hints named before closed sides piece bars =
+    let Q : ℕ → Type 0 = λ n. All (NamesBelow n) earlier in
+    let found = closed-bars earlier ng hints sides (subst Q (sym piece) named) closed bars in
+    All-contains (BarsNothingLower a best) earlier found.1 before (found.0, found.2, found.3) sides piece found.4
 
 -- ---- a log
 
@@ -78,6 +85,18 @@ steps-true a log is named starts k d inside sides piece bars =
     let at = Contains-get_or (no_goods log) k d inside in
     let found = steps-by_start log sides is (subst Q (sym piece) named) (at.0, get_or (no_goods log) k d, at.1, at.2, bars) in
     starts found.0 found.1 found.2 sides piece found.3
+
+pub steps-nothing_lower : (a : Instance) (best : Option (Point a.columns)) (log : List Step) → IsLog log → StartsName (length a.pairs) log → StartsBarNothingLower a best log → All (BarsNothingLower a best) (no_goods log)
+steps-nothing_lower a best log is named starts k d inside sides piece bars =
+    let Q : ℕ → Type 0 = λ n. StartsName n log in
+    let at = Contains-get_or (no_goods log) k d inside in
+    let found = steps-by_start log sides is (subst Q (sym piece) named) (at.0, get_or (no_goods log) k d, at.1, at.2, bars) in
+    starts found.0 found.1 found.2 sides piece found.3
+
+pub empty-nothing_lower : (a : Instance) (best : Option (Point a.columns)) (log : List Step) → IsLog log → StartsName (length a.pairs) log → StartsBarNothingLower a best log → Contains (no_goods log) [] → (p : Point a.columns) → IsFeasible a p → Improves a p best → ⊥
+empty-nothing_lower a best log is named starts empty p feasible =
+    let found = feasible-in_piece a p feasible in
+    All-contains (BarsNothingLower a best) (no_goods log) [] (steps-nothing_lower a best log is named starts) empty found.0 found.1 (λ k d inside. absurd (omega arith)) p found.2
 
 pub empty-by_start : (log : List Step) (sides : List Side) → IsLog log → StartsName (length sides) log → Contains (no_goods log) [] → IsBarredByStart log sides
 empty-by_start log sides is named empty =

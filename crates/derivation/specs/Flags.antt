@@ -3,7 +3,7 @@ use Rattle.std.specs.Prelude.{◌≡◌, ◌<◌, ◌≤◌, Bool, false, List, 
 use Rattle.nogoods.specs.declared.choice.Choice.{Choice}
 use Rattle.nogoods.specs.declared.choice.Side.{Side}
 use Rattle.nogoods.specs.declared.choice.Side.TheVariants.{A, B}
-use Rattle.lpcc_case.specs.declared.limits.TheConstants.{MOST_PAIRS}
+use Rattle.lp_base.specs.declared.limits.TheConstants.{MOST_PAIRS}
 use Rattle.derivation.specs.declared.assumed.Assumed.{Assumed}
 use Rattle.derivation.specs.declared.hint_run.Left.{Left}
 use Rattle.derivation.specs.declared.hint_run.Left.TheVariants.{None, One, More}

@@ -1,11 +1,12 @@
 -- Logs: no-goods that are known, and no-goods that follow from those before them.
-use Rattle.std.specs.Prelude.{◌≡◌, ℕ, true, List, Some, map, slice_get, take}
+use Rattle.std.specs.Prelude.{◌≡◌, ℕ, true, List, Option, Some, map, slice_get, take}
 use Rattle.nogoods.specs.declared.choice.Choice.{Choice}
 use Rattle.nogoods.specs.declared.choice.Side.{Side}
 use Rattle.nogoods.specs.Pieces.{Bars}
 use Rattle.lpcc_case.specs.Instance.{Instance}
 pub use Rattle.lpcc_case.specs.Pieces.{NamesPairs}
-use Rattle.lpcc_case.specs.Pieces.{BarsOnlyEmptyPieces}
+use Rattle.lpcc_case.specs.Points.{Point}
+use Rattle.lpcc_case.specs.Pieces.{BarsNothingLower, BarsOnlyEmptyPieces}
 use Rattle.derivation.specs.declared.step.Step.{Step}
 use Rattle.derivation.specs.declared.step.Step.TheVariants.{Start, Derived}
 use Rattle.derivation.specs.HintRuns.{NamesBelow, closes}
@@ -37,3 +38,7 @@ IsBarredByStart log sides = (k : ℕ) × (ng : List Choice) × (slice_get log k 
 -- each starting no-good bars only pieces without points
 abbrev pub StartsAreTrue : Instance → List Step → Type 0
 StartsAreTrue a log = (k : ℕ) (ng : List Choice) → slice_get log k ≡ Some (Start ng) → BarsOnlyEmptyPieces a ng
+
+-- each starting no-good bars only pieces without a point lower than the best one
+abbrev pub StartsBarNothingLower : (a : Instance) → Option (Point a.columns) → List Step → Type 0
+StartsBarNothingLower a best log = (k : ℕ) (ng : List Choice) → slice_get log k ≡ Some (Start ng) → BarsNothingLower a best ng

@@ -1,7 +1,7 @@
 -- Dictionaries: a row for each basic form, over the nonbasic forms.
 use Rattle.std.specs.Prelude.{◌≡◌, ◌≢◌, ◌+◌, ◌≤◌, ◌<◌, ◌^◌, ℕ, ℤ, pos, List, [], ⊤, length, slice_index_or, slice_set}
-use Rattle.lp_base.specs.Numbers.{IsNarrow}
-use Rattle.lpcc_case.specs.declared.limits.TheConstants.{MOST_COLUMNS, MOST_CONSTRAINTS}
+use Rattle.lp_base.specs.Numbers.{IsNarrow, narrow_bound}
+use Rattle.lp_base.specs.declared.limits.TheConstants.{MOST_COLUMNS, MOST_CONSTRAINTS}
 use Rattle.lpcc_case.specs.declared.form.Form.{Form}
 use Rattle.lpcc_case.specs.declared.form.Form.TheVariants.{Cost}
 use Rattle.lpcc_case.specs.Points.{coefficient}
@@ -26,7 +26,7 @@ entry_at d i j = coefficient (row_at d.rows i).entries j
 
 -- each row is narrow and has no common divisor above 1
 abbrev pub AreRows : ℕ → List Equation → Type 0
-AreRows places rows = (i : ℕ) → i < length rows → IsRow (2 ^ 63) places (row_at rows i) × IsReduced (row_at rows i)
+AreRows places rows = (i : ℕ) → i < length rows → IsRow narrow_bound places (row_at rows i) × IsReduced (row_at rows i)
 
 -- what every dictionary of the code keeps
 pub record IsDictionary (places : ℕ) (d : Dictionary) : Type 0 where

@@ -1,6 +1,6 @@
 -- What an exchange at the place e makes of a row. Before it the nonbasic forms are worth v, after it w; v and w differ at e alone.
 use Rattle.std.specs.Prelude.{◌≡◌, ◌^◌, ℕ, ℤ, neg_ℤ, List, [], ◌∷◌, Bool, true, false, not, nat_eq, if◌then◌else◌}
-use Rattle.lp_base.specs.Numbers.{IsNarrow}
+use Rattle.lp_base.specs.Numbers.{IsNarrow, narrow_bound}
 use Rattle.dict.specs.Terms.{without}
 use Rattle.dict.specs.Equations.{Equation, Holds, IsRow, IsReduced, IsReducedOf, number_at}
 
@@ -14,7 +14,7 @@ Carries e q entering made = (f one : ℤ) (v w : ℕ → ℤ) → ((j : ℕ) →
 
 -- a row after the exchange: narrow, and without a common divisor
 pub record IsNext (places e : ℕ) (q entering made : Equation) : Type 0 where
-  pub row : IsRow (2 ^ 63) places made
+  pub row : IsRow narrow_bound places made
   pub reduced : IsReduced made
   pub carries : Carries e q entering made
 

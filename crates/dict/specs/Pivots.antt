@@ -1,5 +1,6 @@
 -- The rows of a dictionary after a pivot.
 use Rattle.std.specs.Prelude.{◌≡◌, ◌≢◌, ◌<◌, ◌^◌, ℕ, List, [], ◌∷◌, ◌++◌, Option, Some, None, length, slice_set}
+use Rattle.lp_base.specs.Numbers.{narrow_bound}
 use Rattle.dict.specs.Equations.{Equation, IsRow, IsReduced}
 use Rattle.dict.specs.Exchanges.{Enters, IsNext, IsWideNext}
 use Rattle.dict.specs.Dictionaries.{row_at}
@@ -23,7 +24,7 @@ written (f ∷ fresh) rows = written fresh (slice_set rows f.0 f.1)
 pub record IsAfter (places row e : ℕ) (before after : List Equation) : Type 0 where
   pub size : length after ≡ length before
   pub enters : Enters e (row_at before row) (row_at after row)
-  pub is_row : IsRow (2 ^ 63) places (row_at after row)
+  pub is_row : IsRow narrow_bound places (row_at after row)
   pub reduced : IsReduced (row_at after row)
   pub next : (i : ℕ) → i < length before → i ≢ row → IsNext places e (row_at before i) (row_at after row) (row_at after i)
 

@@ -1,6 +1,6 @@
 //! Dictionaries and their pivots.
 ghost use Rattle.std.specs.Prelude.{◌≡◌, ◌≢◌, ◌≤ℤ◌, ◌<◌, ◌^◌, ℕ, ℤ, pos, length, IfErr, OnOk, OnErr};
-ghost use Rattle.lp_base.specs.Numbers.{IsNarrow};
+ghost use Rattle.lp_base.specs.Numbers.{IsNarrow, narrow_bound};
 ghost use Rattle.lpcc_case.specs.Instance.{Instance};
 ghost use Rattle.dict.specs.Terms.{AreTerms};
 ghost use Rattle.dict.specs.Dictionaries.{row_at, form_at, entry_at, AreRows, AllHold, basic_after, nonbasic_after, IsDictionary, IsCause};
@@ -110,7 +110,7 @@ impl Dict {
     pub fn entries(&self, row: u32) -> &[(u32, i64)]
         requires { row < length self.now.rows }
         ensures list { result.now ≡ (row_at self.now.rows row).entries }
-        ensures terms { AreTerms (2 ^ 63) 0 (length self.now.nonbasic) result.now }
+        ensures terms { AreTerms narrow_bound 0 (length self.now.nonbasic) result.now }
     {
         self.rows[row as usize].entries()
     }

@@ -1,13 +1,13 @@
 //! What an exchange of the form of a row with the form at a place makes of the rows.
 ghost use Rattle.std.specs.Prelude.{◌≡◌, ◌≢◌, ◌<◌, ℕ, ℤ, ◌+◌, ◌^◌, ◌+ℤ◌, ◌*ℤ◌, ◌<ℤ◌, pos, nat_eq, not, if◌then◌else◌, unsigned_abs, IfOk, IfErr, OnOk};
-ghost use Rattle.lp_base.specs.Numbers.{IsNarrow};
+ghost use Rattle.lp_base.specs.Numbers.{IsNarrow, narrow_bound};
 ghost use Rattle.lpcc_case.specs.Points.{coefficient};
 ghost use Rattle.dict.specs.Terms.{weigh, without, AreTerms};
 ghost use Rattle.dict.specs.Equations.{IsRow, IsReduced};
 ghost use Rattle.dict.specs.Exchanges.{Enters, Carries, IsNext, IsWideNext, turn, entered};
 
 use crate::merge::combine;
-use crate::numbers::{mixed, product};
+use crate::numbers::{mixed, narrow_product};
 use crate::reduce::{put_narrow, reduce};
 use crate::row::{Row, number_in, term_at};
 use std::alloc::{AllocError, Global};
@@ -43,7 +43,7 @@ fn entered_entries(
     places: u32,
 ) -> Result<Vec<(u32, i64)>, AllocError>
     requires den { IsNarrow den }
-    requires terms { AreTerms (2 ^ 63) 0 places entries.now }
+    requires terms { AreTerms narrow_bound 0 places entries.now }
     ensures { IfOk result (λ out. out.items ≡ entered flip e den entries.now) }
 {
     let mut out: Vec<(u32, i64)> = Vec::with_capacity(alloc, entries.len())?;
@@ -57,11 +57,11 @@ fn entered_entries(
 /// The row of the form that enters at e, from the row of the form that leaves. It has the same
 /// numbers in size, so it is never wide.
 pub fn enter(alloc: Global, row: &Row, e: u32, places: u32) -> Result<Row, AllocError>
-    requires row { IsRow (2 ^ 63) places row.now }
+    requires row { IsRow narrow_bound places row.now }
     requires reduced { IsReduced row.now }
     requires entry { coefficient row.now.entries e ≢ pos 0 }
     ensures enters { IfOk result (λ made. Enters e row.now made) }
-    ensures row { IfOk result (λ made. IsRow (2 ^ 63) places made) }
+    ensures row { IfOk result (λ made. IsRow narrow_bound places made) }
     ensures reduced { IfOk result (λ made. IsReduced made) }
 {
     let p = number_in(row.entries(), e, places);
@@ -74,19 +74,19 @@ pub fn enter(alloc: Global, row: &Row, e: u32, places: u32) -> Result<Row, Alloc
 
 #[inline(always)]
 fn raw_denominator(row: &Row, entering: &Row, places: u32) -> i128
-    requires row { IsRow (2 ^ 63) places row.now }
-    requires entering { IsRow (2 ^ 63) places entering.now }
+    requires row { IsRow narrow_bound places row.now }
+    requires entering { IsRow narrow_bound places entering.now }
     ensures value { result ≡ entering.now.den *ℤ row.now.den }
     ensures positive { pos 0 <ℤ result }
     ensures small { unsigned_abs result < 2 ^ 127 }
 {
-    product(entering.denominator(), row.denominator())
+    narrow_product(entering.denominator(), row.denominator())
 }
 
 #[inline(always)]
 fn raw_constant(row: &Row, entering: &Row, a: i64, places: u32) -> i128
-    requires row { IsRow (2 ^ 63) places row.now }
-    requires entering { IsRow (2 ^ 63) places entering.now }
+    requires row { IsRow narrow_bound places row.now }
+    requires entering { IsRow narrow_bound places entering.now }
     requires narrow { IsNarrow a }
     ensures value { result ≡ (entering.now.den *ℤ row.now.constant) +ℤ (a *ℤ entering.now.constant) }
     ensures small { unsigned_abs result < 2 ^ 127 }
@@ -108,8 +108,8 @@ fn raw_entries(
     e: u32,
     places: u32,
 ) -> Result<(), AllocError>
-    requires row { IsRow (2 ^ 63) places row.now }
-    requires entering { IsRow (2 ^ 63) places entering.now }
+    requires row { IsRow narrow_bound places row.now }
+    requires entering { IsRow narrow_bound places entering.now }
     requires narrow { IsNarrow a }
     ensures weighs { OnOk result ((v : ℕ → ℤ) → weigh out.new.items v ≡ (entering.now.den *ℤ weigh row.now.entries (without e v)) +ℤ (a *ℤ weigh entering.now.entries v)) }
     ensures terms { OnOk result (AreTerms (2 ^ 127) 0 places out.new.items) }
@@ -136,8 +136,8 @@ pub fn exchanged(
     places: u32,
 ) -> Result<Result<Row, u32>, AllocError>
     requires room { places < 2 ^ 31 }
-    requires row { IsRow (2 ^ 63) places row.now }
-    requires entering { IsRow (2 ^ 63) places entering.now }
+    requires row { IsRow narrow_bound places row.now }
+    requires entering { IsRow narrow_bound places entering.now }
     requires entry { a ≡ coefficient row.now.entries e }
     requires narrow { IsNarrow a }
     ensures next { IfOk result (λ made. IfOk made (λ fresh. IsNext places e row.now entering.now fresh)) }

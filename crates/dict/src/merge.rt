@@ -1,6 +1,6 @@
 //! The sum of two sparse rows, each times a number.
 ghost use Rattle.std.specs.Prelude.{◌≡◌, ◌<◌, ℕ, ℤ, ◌+◌, ◌^◌, ◌+ℤ◌, ◌*ℤ◌, OnOk, unsigned_abs};
-ghost use Rattle.lp_base.specs.Numbers.{IsNarrow};
+ghost use Rattle.lp_base.specs.Numbers.{IsNarrow, narrow_bound};
 ghost use Rattle.dict.specs.Terms.{weigh, without, AreTerms};
 
 use crate::numbers::mixed;
@@ -61,8 +61,8 @@ pub fn combine(
 ) -> Result<(), AllocError>
     requires p { IsNarrow p }
     requires a { IsNarrow a }
-    requires left { AreTerms (2 ^ 63) 0 places xs.now }
-    requires right { AreTerms (2 ^ 63) 0 places ys.now }
+    requires left { AreTerms narrow_bound 0 places xs.now }
+    requires right { AreTerms narrow_bound 0 places ys.now }
     ensures weighs { OnOk result ((v : ℕ → ℤ) → weigh out.new.items v ≡ (p *ℤ weigh xs.now (without e v)) +ℤ (a *ℤ weigh ys.now v)) }
     ensures terms { OnOk result (AreTerms (2 ^ 127) 0 places out.new.items) }
 {

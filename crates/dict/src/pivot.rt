@@ -1,6 +1,7 @@
 //! The rows of a dictionary after a pivot: all of them are made before the first is written.
 ghost use Rattle.std.specs.Prelude.{◌≡◌, ◌≢◌, ◌<◌, ℕ, ◌^◌, List, length, IfOk, IfErr, OnOk, OnErr, pos};
 ghost use Rattle.std.specs.List.{AllByRecursion};
+ghost use Rattle.lp_base.specs.Numbers.{narrow_bound};
 ghost use Rattle.lpcc_case.specs.Points.{coefficient};
 ghost use Rattle.dict.specs.Equations.{IsRow, IsReduced};
 ghost use Rattle.dict.specs.Exchanges.{IsNext, IsWideNext};
@@ -21,9 +22,9 @@ fn next_row(
     places: u32,
 ) -> Result<Result<Option<Row>, u32>, AllocError>
     requires room { places < 2 ^ 31 }
-    requires row { IsRow (2 ^ 63) places row.now }
+    requires row { IsRow narrow_bound places row.now }
     requires reduced { IsReduced row.now }
-    requires entering { IsRow (2 ^ 63) places entering.now }
+    requires entering { IsRow narrow_bound places entering.now }
     ensures next { IfOk result (λ made. IfOk made (λ fresh. IsNext places e row.now entering.now (next_or fresh row.now))) }
     ensures wide { IfOk result (λ made. IfErr made (λ at. IsWideNext places e at row.now entering.now)) }
 {
@@ -50,7 +51,7 @@ fn next_at(
     requires room { places < 2 ^ 31 }
     requires within { i < length rows.now }
     requires rows { AreRows places rows.now }
-    requires entering { IsRow (2 ^ 63) places entering.now }
+    requires entering { IsRow narrow_bound places entering.now }
     ensures next { IfOk result (λ made. IfOk made (λ fresh. i ≢ row → IsNext places e (row_at rows.now i) entering.now (next_or fresh (row_at rows.now i)))) }
     ensures other { IfOk result (λ made. IfErr made (λ at. i ≢ row)) }
     ensures wide { IfOk result (λ made. IfErr made (λ at. IsWideNext places e at (row_at rows.now i) entering.now)) }
@@ -84,7 +85,7 @@ fn fresh_rows(
     requires room { places < 2 ^ 31 }
     requires few { length rows.now < 2 ^ 31 }
     requires rows { AreRows places rows.now }
-    requires entering { IsRow (2 ^ 63) places entering.now }
+    requires entering { IsRow narrow_bound places entering.now }
     ensures size { IfOk result (λ made. IfOk made (λ fresh. length (written fresh.items rows.now) ≡ length rows.now)) }
     ensures numbers { IfOk result (λ made. IfOk made (λ fresh. AllByRecursion (λ f. f.0 < length rows.now) fresh.items)) }
     ensures next { IfOk result (λ made. IfOk made (λ fresh. (i : ℕ) → i < length rows.now → i ≢ row → IsNext places e (row_at rows.now i) entering.now (row_at (written fresh.items rows.now) i))) }

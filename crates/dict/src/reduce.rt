@@ -1,6 +1,7 @@
 //! A row divided by the greatest common divisor of its numbers.
 ghost use Rattle.std.specs.Prelude.{◌≡◌, ◌≤◌, ◌<◌, ◌*◌, ◌^◌, ◌++◌, ◌∷◌, [], ◌<ℤ◌, pos, length, unsigned_abs, IfOk, IfErr, OnOk, slice_index_or};
 ghost use Rattle.std.specs.Int.{IsGcd};
+ghost use Rattle.lp_base.specs.Numbers.{narrow_bound};
 ghost use Rattle.lpcc_case.specs.Points.{coefficient};
 ghost use Rattle.dict.specs.Terms.{AreTerms};
 ghost use Rattle.dict.specs.Equations.{equation, DividesEach, IsCommon, IsReducedOf, IsRow, scale};
@@ -67,8 +68,8 @@ fn divide_all(
     requires divides { DividesEach (unsigned_abs g) entries.now }
     requires terms { AreTerms (2 ^ 127) 0 places entries.now }
     ensures exact { IfOk result (λ made. IfOk made (λ out. scale g out.items ≡ entries.now)) }
-    ensures narrow { IfOk result (λ made. IfOk made (λ out. AreTerms (2 ^ 63) 0 places out.items)) }
-    ensures wide { IfOk result (λ made. IfErr made (λ at. 2 ^ 63 * unsigned_abs g ≤ unsigned_abs (coefficient entries.now at))) }
+    ensures narrow { IfOk result (λ made. IfOk made (λ out. AreTerms narrow_bound 0 places out.items)) }
+    ensures wide { IfOk result (λ made. IfErr made (λ at. narrow_bound * unsigned_abs g ≤ unsigned_abs (coefficient entries.now at))) }
     ensures within { IfOk result (λ made. IfErr made (λ at. at < places)) }
 {
     let mut out: Vec<(u32, i64)> = Vec::with_capacity(alloc, entries.len())?;
@@ -94,7 +95,7 @@ pub fn reduce(
     requires room { places < 2 ^ 31 }
     requires row { IsRow (2 ^ 127) places (equation den constant entries.now) }
     ensures reduced { IfOk result (λ made. IfOk made (λ row. IsReducedOf (equation den constant entries.now) row)) }
-    ensures narrow { IfOk result (λ made. IfOk made (λ row. IsRow (2 ^ 63) places row)) }
+    ensures narrow { IfOk result (λ made. IfOk made (λ row. IsRow narrow_bound places row)) }
     ensures wide { IfOk result (λ made. IfErr made (λ at. IsWideAt places at (equation den constant entries.now))) }
 {
     let g = common(den, constant, entries, places);

@@ -1,6 +1,6 @@
 //! Rows, each a sparse list of entries over a denominator of its own.
 ghost use Rattle.std.specs.Prelude.{◌≡◌, ◌<◌, ◌^◌, pos, length, slice_index_or, unsigned_abs};
-ghost use Rattle.lp_base.specs.Numbers.{IsNarrow};
+ghost use Rattle.lp_base.specs.Numbers.{IsNarrow, narrow_bound};
 ghost use Rattle.lpcc_case.specs.Points.{coefficient};
 ghost use Rattle.dict.specs.Terms.{AreTerms};
 ghost use Rattle.dict.specs.Equations.{equation};
@@ -70,7 +70,7 @@ pub fn term_at(list: &[(u32, i64)], i: usize) -> (u32, i64)
 /// The number at a place.
 #[inline(always)]
 pub fn number_in(entries: &[(u32, i64)], e: u32, places: u32) -> i64
-    requires { AreTerms (2 ^ 63) 0 places entries.now }
+    requires { AreTerms narrow_bound 0 places entries.now }
     ensures value { result ≡ coefficient entries.now e }
     ensures narrow { IsNarrow result }
 {

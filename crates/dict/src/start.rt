@@ -7,7 +7,7 @@ ghost use Rattle.dict.specs.Forms.{constraint_row, cost_row, nonzero, start_of, 
 
 use crate::dictionary::Dict;
 use crate::row::Row;
-use lpcc_case::{Case, Constraint, Form, MOST_COLUMNS};
+use lpcc_case::{Case, Constraint, Form, MOST_COLUMNS, MOST_CONSTRAINTS};
 use std::alloc::{AllocError, Global};
 
 fn row_of_constraint(alloc: Global, constraint: &Constraint) -> Result<Row, AllocError>
@@ -83,7 +83,7 @@ fn put_form(forms: &mut Vec<Form>, form: Form) -> Result<(), AllocError>
 }
 
 fn basic_of(alloc: Global, constraints: usize) -> Result<Vec<Form>, AllocError>
-    requires { constraints ≤ 2000 }
+    requires { constraints ≤ MOST_CONSTRAINTS }
     ensures { IfOk result (λ forms. forms.items ≡ map Form.Con (range_with_len 0 constraints) ++ Form.Cost ∷ []) }
 {
     let mut forms: Vec<Form> = Vec::with_capacity(alloc, constraints + 1)?;

@@ -1,9 +1,20 @@
-//! What every crate of the solver shares: a list that contracts see as its elements, and, in
-//! `specs/` and `proofs/`, sums over lists of whole numbers with their laws.
+//! What every crate of the solver shares: a list that contracts see as its elements, the limits,
+//! products of 64-bit numbers, ascending lists, and, in `specs/` and `proofs/`, sums over lists of
+//! whole numbers with their laws.
 #![tactic(auto)]
+
+mod ascending;
+mod limits;
+mod products;
 
 ghost use Rattle.std.specs.Prelude.{◌≡◌, ◌==◌, ◌<◌, ◌∷◌, ◌++◌, [], IfOk, OnOk, OnErr, length};
 
+pub use ascending::{Numbered, is_ascending};
+pub use limits::{
+    LARGEST_NARROW, LARGEST_OF_CASE, LARGEST_WORD, MOST_COLUMNS, MOST_CONSTRAINTS, MOST_ENTRIES,
+    MOST_PAIRS, MOST_ROWS, NO_BOUND_FROM,
+};
+pub use products::{add_product, product};
 use std::alloc::{AllocError, Global};
 use std::marker::Model;
 

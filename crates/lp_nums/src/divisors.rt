@@ -3,7 +3,7 @@
 ghost use Rattle.std.specs.Prelude.{◌≡◌, ◌*◌, ◌%◌, ◌^◌, ◌<◌, pos, ◌≤ℤ◌, unsigned_abs};
 ghost use Rattle.std.specs.Int.{IsGcd, w64, w128, trailing_zeros};
 
-const NARROW: u128 = u64::MAX as u128;
+use lp_base::LARGEST_WORD;
 
 /// The number without its factors of two.
 #[inline(always)]
@@ -48,7 +48,7 @@ fn gcd_of_wide_odd(a: u128, b: u128) -> u128
     let mut x = a;
     let mut y = b;
     while x != y {
-        if x <= NARROW && y <= NARROW {
+        if x <= LARGEST_WORD && y <= LARGEST_WORD {
             return gcd_of_odd(x as u64, y as u64) as u128;
         }
         let (low, rest) = if x < y { (x, y - x) } else { (y, x - y) };
@@ -97,13 +97,13 @@ fn gcd_of_mixed(wide: u128, narrow: u64) -> u128
 fn gcd_of_sizes(a: u128, b: u128) -> u128
     ensures { IsGcd a b result }
 {
-    if a <= NARROW {
-        if b <= NARROW {
+    if a <= LARGEST_WORD {
+        if b <= LARGEST_WORD {
             gcd_of_narrow(a as u64, b as u64) as u128
         } else {
             gcd_of_mixed(b, a as u64)
         }
-    } else if b <= NARROW {
+    } else if b <= LARGEST_WORD {
         gcd_of_mixed(a, b as u64)
     } else {
         gcd_of_wide(a, b)

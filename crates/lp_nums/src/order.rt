@@ -4,6 +4,7 @@ ghost use Rattle.std.specs.Prelude.{◌≡◌, pos, ◌*ℤ◌, ◌≤ℤ◌, �
 ghost use Rattle.std.specs.Int.{int_div_euclid, int_rem_euclid};
 ghost use Rattle.lp_nums.specs.Fractions.{quotient_cmp};
 
+use lp_base::product;
 use std::cmp::Ordering;
 
 /// v / e rounded down.
@@ -22,12 +23,6 @@ fn rest_of(v: i128, e: i64) -> i64
     ensures high { result <ℤ e }
 {
     v.rem_euclid(i128::from(e)) as i64
-}
-
-fn product(a: i64, b: i64) -> i128
-    ensures { result ≡ a *ℤ b }
-{
-    i128::from(a) * i128::from(b)
 }
 
 /// The order of v / e and z / d, exact. The whole parts are compared first, so that each product is

@@ -6,3 +6,4 @@ pub mod Products
 pub mod Members
 pub mod Shares
 pub mod Meanings
+pub mod FormOrder

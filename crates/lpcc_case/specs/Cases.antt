@@ -1,7 +1,7 @@
 -- The facts that a case keeps.
-use Rattle.std.specs.Prelude.{◌≡◌, ◌≢◌, ◌≤◌, ◌<◌, ◌^◌, ◌≤ℤ◌, ℕ, ℤ, pos, List, All, IsTrue, Some, length, slice_get, unsigned_abs}
+use Rattle.std.specs.Prelude.{◌≡◌, ◌≢◌, ◌≤◌, ◌<◌, ◌≤ℤ◌, ℕ, ℤ, pos, List, All, IsTrue, Some, length, slice_get, unsigned_abs}
 use Rattle.lp_base.specs.Ascending.{ascends_by, number_of}
-use Rattle.lpcc_case.specs.declared.limits.TheConstants.{MOST_COLUMNS, MOST_CONSTRAINTS, MOST_PAIRS}
+use Rattle.lp_base.specs.declared.limits.TheConstants.{LARGEST_OF_CASE, MOST_COLUMNS, MOST_CONSTRAINTS, MOST_PAIRS}
 use Rattle.lpcc_case.specs.declared.constraint.Constraint.{Constraint}
 use Rattle.lpcc_case.specs.declared.constraint.Kind.TheVariants.{Ge}
 use Rattle.lpcc_case.specs.Instance.{Instance}
@@ -11,7 +11,7 @@ instance_of columns cost scale offset constraints pairs = record { columns = col
 
 -- at most 2^52 in size
 abbrev pub FitsCase : ℤ → Type 0
-FitsCase z = unsigned_abs z ≤ 2 ^ 52
+FitsCase z = unsigned_abs z ≤ LARGEST_OF_CASE
 
 -- the terms name columns that ascend strictly, and none is zero
 pub record IsConstraint (columns : ℕ) (c : Constraint) : Type 0 where

@@ -1,4 +1,5 @@
 pub mod Instance
+pub mod Forms
 pub mod Cases
 pub mod Points
 pub mod Pieces

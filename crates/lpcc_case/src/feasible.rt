@@ -8,8 +8,9 @@ ghost use Rattle.lpcc_case.specs.Pieces.{NamesPairs};
 ghost use Rattle.lpcc_case.specs.Points as points;
 ghost use Rattle.lpcc_case.specs.Points.{Relates, MeetsAll, IsTightAt, IsComplementary, Recedes, left_side};
 
-use crate::sums::{cost_of, left_side, product};
+use crate::sums::{cost_of, left_side};
 use crate::{Case, Constraint, Kind, MOST_COLUMNS, Point, Ray};
+use lp_base::product;
 use nogoods::{Choice, NoGood};
 
 /// Whether the left side at these numbers relates to d times the right side.

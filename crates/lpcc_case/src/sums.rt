@@ -7,24 +7,7 @@ ghost use Rattle.lpcc_case.specs.NarrowPoints.{AreNumbersOf};
 ghost use Rattle.lpcc_case.specs.Points.{left_side};
 
 use crate::{Case, Constraint, MOST_COLUMNS};
-
-/// A number of a case times a narrow one.
-pub fn product(fitting: i64, narrow: i64) -> i128
-    requires fits { FitsCase fitting }
-    requires narrow { IsNarrow narrow }
-    ensures { result ≡ fitting *ℤ narrow }
-{
-    i128::from(fitting) * i128::from(narrow)
-}
-
-fn add_product(sum: i128, fitting: i64, narrow: i64) -> i128
-    requires room { unsigned_abs sum < 2 ^ 126 }
-    requires fits { FitsCase fitting }
-    requires narrow { IsNarrow narrow }
-    ensures { result ≡ sum +ℤ (fitting *ℤ narrow) }
-{
-    sum + product(fitting, narrow)
-}
+use lp_base::add_product;
 
 /// The left side of a constraint at these numbers, one for each column.
 pub fn left_side(constraint: &Constraint, numbers: &[i64]) -> i128

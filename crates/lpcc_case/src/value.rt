@@ -3,8 +3,8 @@ ghost use Rattle.std.specs.Prelude.{◌≡◌, ◌<◌, ◌≤◌, ◌^◌, ◌�
 ghost use Rattle.lpcc_case.specs.NarrowPoints.{IsBelow};
 ghost use Rattle.lpcc_case.specs.Values.{IsValue, IsValueText};
 
-use crate::sums::product;
 use crate::{Case, Point};
+use lp_base::product;
 use lp_nums::{Frac, compare};
 use std::alloc::{AllocError, Global};
 use std::cmp::Ordering;

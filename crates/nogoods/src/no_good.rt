@@ -1,8 +1,9 @@
 //! Sets of choices without both sides of a pair.
 ghost use Rattle.std.specs.Prelude.{◌≡◌, ◌↔◌, IfOk, IfSome, IsSome, IsTrue};
-ghost use Rattle.nogoods.specs.Choices.{pairs_ascend};
+ghost use Rattle.nogoods.specs.Choices.{pair_of, pairs_ascend};
 
 use crate::Choice;
+use lp_base::{Numbered, is_ascending};
 use smallvec::SmallVec;
 use std::alloc::{AllocError, Global};
 use std::marker::Model;
@@ -26,15 +27,12 @@ impl Model for NoGood {
     ghost invariant = { λ n. pairs_ascend n.held.items ≡ true };
 }
 
-fn is_ascending(list: &[Choice]) -> bool
-    ensures { result ≡ pairs_ascend list.now }
-{
-    for i in 1..list.len() {
-        if list[i - 1].pair >= list[i].pair {
-            return false;
-        }
+impl Numbered for Choice {
+    ghost number = { pair_of };
+
+    fn number(&self) -> u32 {
+        self.pair
     }
-    true
 }
 
 impl NoGood {

@@ -4,8 +4,8 @@ use Rattle.lp_base.proofs.Machine.{again, again_small, narrow_again}
 use mir.Syntax.{w64, w128}
 use Rattle.cuts.proofs.sums.add_terms.Goals as goal
 
-pub add_product-requires-clause-room : goal.add_product-requires-clause-room
-add_product-requires-clause-room c =
+pub add_product-requires : goal.add_product-requires
+add_product-requires c =
     let ts = c.args.terms.now in
     let i = c.loop-term.term-index in
     let sums = c.loop-term.sums in

@@ -9,7 +9,7 @@ pub returns-clause-value : goal.returns-clause-value
 returns-clause-value c =
     let ep : to_z w64 (of_z w64 c.denominator.result) ≡ c.args.entering.now.den = ap (λ (z : ℤ). to_z w64 (of_z w64 z)) c.denominator.ensures ∙ read_again c.args.entering.now.den c.requires.entering.den in
     let ed : to_z w64 (of_z w64 c.denominator-2.result) ≡ c.args.row.now.den = ap (λ (z : ℤ). to_z w64 (of_z w64 z)) c.denominator-2.ensures ∙ read_again c.args.row.now.den c.requires.row.den in
-    again c.product.result (omega (arith, c.product.ensures.small)) ∙ c.product.ensures.value ∙ rw (ep, ed) refl
+    again c.narrow_product.result (omega (arith, c.narrow_product.ensures.small)) ∙ c.narrow_product.ensures.value ∙ rw (ep, ed) refl
 
 pub returns-clause-positive : goal.returns-clause-positive
 returns-clause-positive c =

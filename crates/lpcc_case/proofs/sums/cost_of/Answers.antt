@@ -1,8 +1,8 @@
 use Rattle.lpcc_case.proofs.Products.{cost_small, cost_more}
 use Rattle.lpcc_case.proofs.sums.cost_of.Goals as goal
 
-pub add_product-sum-requires-clause-room : goal.add_product-sum-requires-clause-room
-add_product-sum-requires-clause-room c =
+pub add_product-sum-requires : goal.add_product-sum-requires
+add_product-sum-requires c =
     rw c.loop-j.invariant (cost_small c.args.case.now c.args.numbers.now c.loop-j.j c.cost-cost-items.ensures.kept c.requires)
 
 pub loop-j-preserved : goal.loop-j-preserved
