@@ -2,28 +2,25 @@
 use Rattle.std.proofs.Common.{ℕ, zero, suc, ◌-◌, ◌<◌, ◌≤◌, ◌≡◌, refl, sym, subst, arith, ℤ, pos, ◌*ℤ◌, ◌≤ℤ◌, true, List, [], length, map, get_or, take, add-one, inl, inr, Option, Some, None}
 use Rattle.std.specs.Prelude.{All}
 use Rattle.std.proofs.lemmas.List.{take_all}
-use Rattle.std.proofs.lemmas.List.Elements.{All-nil, All-more, All-map, All-weaker, All-contains}
+use Rattle.std.proofs.lemmas.List.Elements.{All-nil, All-more, All-map, All-weaker}
 use Rattle.std.proofs.lemmas.Option.{slice_get-get_or, slice_get_within, get_or_from_slice_get}
 use Rattle.lp_base.proofs.Ring.{mul_comm}
 use Rattle.nogoods.specs.declared.choice.Choice.{Choice}
 use Rattle.lpcc_case.specs.Instance.{Instance}
 use Rattle.lpcc_case.specs.Points.{Point, IsFeasible, cost_at}
 use Rattle.lpcc_case.proofs.PieceLaws.{feasible-in_piece}
-use Rattle.cuts.specs.declared.cut.Cut.{Cut}
 use Rattle.cuts.specs.declared.cut.Cut.TheVariants as cut
-use Rattle.cuts.specs.Cuts as cuts
-use Rattle.cuts.specs.Cuts.{Passes, IsActive, Improves, right_sum}
-use Rattle.cuts.proofs.CutLaws.{cut_is_true, nothing_lower}
-use Rattle.derivation.specs.HintRuns.{NamesBelow, closes}
-use Rattle.derivation.specs.Logs.{NamesPairs}
-use Rattle.derivation.proofs.Barring.{closed-bars}
+use Rattle.lpcc_case.specs.Pieces.{BarsNothingLower, Improves, NamesPairs}
+use Rattle.cuts.specs.Cuts.{Passes, right_sum}
+use Rattle.cuts.proofs.CutLaws.{bars_nothing_lower}
+use Rattle.derivation.proofs.LogLaws.{closed-nothing_lower}
 use Rattle.cert_text.specs.declared.cert.CertLine.{CertLine}
 use Rattle.cert_text.specs.declared.cert.CertLine.TheVariants.{Ray, Point as PointCut, Derived}
 use Rattle.cert_text.specs.Certs.{no_good_of}
 use Rattle.cert_check.specs.declared.accept.NoWhy.{NoWhy}
 use Rattle.cert_check.specs.declared.accept.NoWhy.TheVariants.{WrongKind, CutFails, BoundLow, HintFails, NotEmptyAtEnd}
 use Rattle.cert_check.specs.Acceptance.{NoGoodFails, NoGoodsFail, PointCutPasses, HintsPass, EndsEmpty}
-use Rattle.cert_check.specs.Barring.{BarsNothingLower, NoGoodsPass, claimed_by}
+use Rattle.cert_check.specs.Barring.{NoGoodsPass, claimed_by}
 use Rattle.cert_check.proofs.Stable.{Holds, all_stable, below_stable}
 
 -- the no-good names pairs of the instance, and bars nothing lower
@@ -32,11 +29,6 @@ IsSound a best ng = NamesPairs a ng × BarsNothingLower a best ng
 
 names_stable : (a : Instance) (ng : List Choice) → Holds (NamesPairs a ng) → NamesPairs a ng
 names_stable a ng h = all_stable (λ c. c.pair < length a.pairs) ng (λ c. below_stable c.pair (length a.pairs)) h
-
--- a cut that passes and is active
-cut_bars : (a : Instance) (best : Option (Point a.columns)) (c : Cut) → Passes a c → IsActive a c best → BarsNothingLower a best (cuts.no_good_of c)
-cut_bars a best c passes active sides piece bars p lies improves =
-    nothing_lower a c best p (cut_is_true a c passes) active lies.met (λ k d inside. lies.tight _ (bars k d inside)) improves
 
 -- what cannot fail to pass
 from_passing : (a : Instance) (best : Option (Point a.columns)) (ng : List Choice) (P : Type 0) → (P → IsSound a best ng) → Holds P → IsSound a best ng
@@ -48,7 +40,7 @@ LinePasses a best earlier line = (why : NoWhy) → NoGoodFails a (claimed_by a b
 
 ray_sound : (a : Instance) (best : Option (Point a.columns)) (earlier : List (List Choice)) (ng : List Choice) (mult : List (ℕ × ℤ)) → LinePasses a best earlier (Ray ng mult) → IsSound a best ng
 ray_sound a best earlier ng mult passes =
-    from_passing a best ng (Passes a (cut.Ray ng mult)) (λ h. (h.indexed.pairs_named, cut_bars a best (cut.Ray ng mult) h tt)) (λ never. passes CutFails (refl, never))
+    from_passing a best ng (Passes a (cut.Ray ng mult)) (λ h. (h.indexed.pairs_named, bars_nothing_lower a (cut.Ray ng mult) best h tt)) (λ never. passes CutFails (refl, never))
 
 point_sound : (a : Instance) (best : Option (Point a.columns)) (earlier : List (List Choice)) (ng : List Choice) (e : ℤ) (mult : List (ℕ × ℤ)) → LinePasses a best earlier (PointCut ng e mult) → IsSound a best ng
 point_sound a None earlier ng e mult passes = absurd (passes WrongKind refl)
@@ -56,20 +48,14 @@ point_sound a (Some q) earlier ng e mult passes =
     let v = right_sum a mult in
     let low : ℤ → ℤ → Type 0 = λ x y. x ≤ℤ y in
     from_passing a (Some q) ng (PointCutPasses a ng e mult × ((cost_at a q *ℤ e) ≤ℤ (v *ℤ pos q.d)))
-    (λ h. (h.0.indexed.pairs_named, cut_bars a (Some q) (cut.Point ng mult e v) h.0 (subst (λ z. z ≤ℤ (v *ℤ pos q.d)) (mul_comm (cost_at a q) e) h.1)))
+    (λ h. (h.0.indexed.pairs_named, bars_nothing_lower a (cut.Point ng mult e v) (Some q) h.0 (subst (λ z. z ≤ℤ (v *ℤ pos q.d)) (mul_comm (cost_at a q) e) h.1)))
     (λ never. passes CutFails (inl (refl, λ h. passes BoundLow (inr (refl, h, λ bound. never (h, bound))))))
-
-derived_bars : (a : Instance) (best : Option (Point a.columns)) (earlier : List (List Choice)) (ng : List Choice) (hints : List ℕ) → All (NamesPairs a) earlier → All (BarsNothingLower a best) earlier → closes earlier ng hints ≡ true → BarsNothingLower a best ng
-derived_bars a best earlier ng hints named before closed sides piece bars p lies improves =
-    let Q : ℕ → Type 0 = λ n. All (NamesBelow n) earlier in
-    let found = closed-bars earlier ng hints sides (subst Q (sym piece) named) closed bars in
-    All-contains (BarsNothingLower a best) earlier found.1 before (found.0, found.2, found.3) sides piece found.4 p lies improves
 
 derived_sound : (a : Instance) (best : Option (Point a.columns)) (earlier : List (List Choice)) (ng : List Choice) (hints : List ℕ) → LinePasses a best earlier (Derived ng hints) → All (IsSound a best) earlier → IsSound a best ng
 derived_sound a best earlier ng hints passes before =
     let named = All-weaker (IsSound a best) (NamesPairs a) (λ x s. s.0) earlier before in
     let bars = All-weaker (IsSound a best) (BarsNothingLower a best) (λ x s. s.1) earlier before in
-    from_passing a best ng (HintsPass a earlier ng hints) (λ h. (h.0, derived_bars a best earlier ng hints named bars h.1)) (λ never. passes HintFails (refl, never))
+    from_passing a best ng (HintsPass a earlier ng hints) (λ h. (h.0, closed-nothing_lower a best earlier ng hints named bars h.1)) (λ never. passes HintFails (refl, never))
 
 line_sound : (a : Instance) (best : Option (Point a.columns)) (earlier : List (List Choice)) (line : CertLine) → LinePasses a best earlier line → All (IsSound a best) earlier → IsSound a best (no_good_of line)
 line_sound a best earlier (Ray ng mult) passes before = ray_sound a best earlier ng mult passes

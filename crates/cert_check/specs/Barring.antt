@@ -1,21 +1,11 @@
--- What the no-goods of a certificate leave out.
+-- The no-goods of a certificate, one after another.
 use Rattle.std.specs.Prelude.{◌≡◌, ◌<◌, ℕ, ℤ, pos, List, Option, Some, None, length, map, slice_get, take}
-use Rattle.nogoods.specs.declared.choice.Choice.{Choice}
-use Rattle.nogoods.specs.declared.choice.Side.{Side}
-use Rattle.nogoods.specs.Pieces.{Bars}
 use Rattle.lpcc_case.specs.Instance.{Instance}
 use Rattle.lpcc_case.specs.Points.{Point, cost_at}
-use Rattle.lpcc_case.specs.Pieces.{IsPiece, LiesIn}
-use Rattle.cuts.specs.Cuts.{Improves}
 use Rattle.cert_text.specs.declared.cert.CertLine.{CertLine}
 use Rattle.cert_text.specs.Certs.{no_good_of}
 use Rattle.cert_check.specs.declared.accept.NoWhy.{NoWhy}
 use Rattle.cert_check.specs.Acceptance.{NoGoodFails}
-
--- In each piece that the no-good bars, no point is lower than the best point; without a best point there is no point.
-abbrev pub BarsNothingLower : (a : Instance) → Option (Point a.columns) → List Choice → Type 0
-BarsNothingLower a best no_good =
-    (sides : List Side) → IsPiece a sides → Bars no_good sides → (p : Point a.columns) → LiesIn a sides p → Improves a p best → ⊥
 
 -- the value that a best point claims: its cost times its denominator, and the denominator
 abbrev pub claimed_by : (a : Instance) → Option (Point a.columns) → Option (ℤ × ℤ)

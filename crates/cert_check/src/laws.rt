@@ -2,6 +2,7 @@
 ghost use Rattle.std.specs.Prelude.{◌≡◌, ◌≤ℤ◌, ℕ, pos, All, List, Option, map};
 ghost use Rattle.lpcc_case.specs.Instance.{Instance};
 ghost use Rattle.lpcc_case.specs.Points.{Point};
+ghost use Rattle.lpcc_case.specs.Pieces.{BarsNothingLower};
 ghost use Rattle.lpcc_case.specs.Verdicts.{IsTrueOf};
 ghost use Rattle.lpcc_case.specs.declared.verdict.Verdict.{Verdict};
 ghost use Rattle.cert_text.specs.declared.cert.Cert.{Cert};
@@ -9,7 +10,7 @@ ghost use Rattle.cert_text.specs.declared.cert.CertLine.{CertLine};
 ghost use Rattle.cert_text.specs.Certs.{no_good_of};
 ghost use Rattle.cert_check.specs.declared.accept.NoWhy.{NoWhy as Reason};
 ghost use Rattle.cert_check.specs.Acceptance.{Accepts, Refuses};
-ghost use Rattle.cert_check.specs.Barring.{BarsNothingLower, NoGoodsPass, claimed_by};
+ghost use Rattle.cert_check.specs.Barring.{NoGoodsPass, claimed_by};
 
 /// Where no line fails over those before it, each no-good bars only pieces in which no point is
 /// lower than the best point, whose value is claimed; without one, only pieces without points.

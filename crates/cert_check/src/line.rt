@@ -1,6 +1,5 @@
 //! The test of one no-good line.
 ghost use Rattle.std.specs.Prelude.{◌≡◌, ◌↔◌, ◌≤ℤ◌, All, IsTrue, map, pos};
-ghost use Rattle.lpcc_case.specs.Pieces.{NamesPairs};
 ghost use Rattle.derivation.specs.HintRuns.{NamesBelow};
 ghost use Rattle.cert_text.specs.Certs.{IsLine, no_good_of};
 ghost use Rattle.cert_check.specs.Acceptance.{HintsPass, IsBoundFor, NoGoodFails, PointCutFails};
@@ -11,7 +10,7 @@ use cert_text::CertLine;
 use cuts::{check_ray, point_bound};
 use derivation::{NoGoods, closes};
 use lp_nums::compare;
-use lpcc_case::{Case, MOST_PAIRS};
+use lpcc_case::{Case, MOST_PAIRS, names_pairs};
 use nogoods::{Choice, NoGood};
 use std::cmp::Ordering;
 
@@ -42,22 +41,13 @@ impl NoGoods for Before<'_> {
     }
 }
 
-fn names_pairs(case: &Case, ng: &NoGood) -> bool
-    ensures { IsTrue result ↔ NamesPairs case.now ng.now }
-{
-    let pairs = case.pairs().len();
-    ng.choices()
-        .iter()
-        .all(|choice| (choice.pair as usize) < pairs)
-}
-
 /// Whether the choices name pairs and the hint run over the lines before closes.
 fn hints_pass(case: &Case, before: &[CertLine], ng: &NoGood, hints: &[u64]) -> bool
     requires few_pairs { NamesBelow MOST_PAIRS ng.now }
     requires form_before { All IsLine before.now }
     ensures { IsTrue result ↔ HintsPass case.now (map no_good_of before.now) ng.now hints.now }
 {
-    names_pairs(case, ng) && closes(&Before { lines: before }, ng, hints)
+    names_pairs(case, ng.choices()) && closes(&Before { lines: before }, ng, hints)
 }
 
 /// Whether the bound `v / e` is at least the value `z / d`.

@@ -45,7 +45,7 @@ weigh_zero [] n w all none = refl
 weigh_zero (t ∷ ts) n w all none = omega (arith, ints, ap (λ z. t.1 *ℤ z) (none t.0 all.0) ∙ *ℤ-zero t.1, weigh_zero ts n w all.1 none)
 
 -- with no coefficient there is no sum
-no_sum : (ts : List (ℕ × ℤ)) (n : ℕ) (v : ℕ → ℤ) → AllByRecursion (λ t. t.0 < n) ts → ((j : ℕ) → coefficient ts j ≡ pos 0) → weigh ts v ≡ pos 0
+pub no_sum : (ts : List (ℕ × ℤ)) (n : ℕ) (v : ℕ → ℤ) → AllByRecursion (λ t. t.0 < n) ts → ((j : ℕ) → coefficient ts j ≡ pos 0) → weigh ts v ≡ pos 0
 no_sum ts n v all none = masked ts n v none ∙ weigh_zero ts n (mask n v) all (λ j h. mask_zero n j v h)
 
 -- two rows are the same but for a factor
@@ -102,10 +102,10 @@ determined n q m f g independent bq bm hq hm =
     }
 
 -- a common divisor g of a and b that goes with a factor k: what divides k a and k b divides k g
-record Bezout (a b : ℕ) : Type 0 where
-  g : ℕ
-  is : IsGcd a b g
-  times : (d k : ℕ) → d ∣ k * a → d ∣ k * b → d ∣ k * g
+pub record Bezout (a b : ℕ) : Type 0 where
+  pub g : ℕ
+  pub is : IsGcd a b g
+  pub times : (d k : ℕ) → d ∣ k * a → d ∣ k * b → d ∣ k * g
 
 dvd_mod : (d k a b : ℕ) → d ∣ k * a → d ∣ k * b → d ∣ k * (a % b)
 dvd_mod d k a b h i =
@@ -116,7 +116,7 @@ dvd_mod d k a b h i =
 less : (r b fuel : ℕ) → r < suc b → suc b < suc fuel → r < fuel
 less r b fuel h k = omega (arith, h, k)
 
-bezout : (fuel a b : ℕ) → b < fuel → Bezout a b
+pub bezout : (fuel a b : ℕ) → b < fuel → Bezout a b
 bezout zero a b h = absurd (omega arith)
 bezout (suc fuel) a zero h = record { g = a; is = IsGcd-from_zero a 0 refl; times = λ d k x y. x }
 bezout (suc fuel) a (suc b) h =
@@ -163,7 +163,7 @@ divides_factor q d k reduced hd hc each =
 zero_times : (k : ℕ) → 0 ≡ k * unsigned_abs (pos 0)
 zero_times k = omega arith
 
-later : (p j : ℕ) (z : ℤ) (ts : List (ℕ × ℤ)) → p + 1 ≤ j → coefficient ((p, z) ∷ ts) j ≡ coefficient ts j
+pub later : (p j : ℕ) (z : ℤ) (ts : List (ℕ × ℤ)) → p + 1 ≤ j → coefficient ((p, z) ∷ ts) j ≡ coefficient ts j
 later p j z ts h =
     let e : cond (eqb p j) z (pos 0) ≡ pos 0 = share_other p j z (λ eq. omega (arith, h, eq)) in
     omega (arith, ints, e)
@@ -189,12 +189,12 @@ divides_cross a b d d' e =
     let x : unsigned_abs d' * unsigned_abs a ≡ unsigned_abs b * unsigned_abs d = omega (arith, sym (unsigned_abs-mul a d') ∙ ap unsigned_abs e ∙ unsigned_abs-mul b d) in
     subst (λ (n : ℕ). unsigned_abs d ∣ n) (sym x) (dvd-mul_left (unsigned_abs d) (unsigned_abs b))
 
-whole : (d d' : ℤ) → pos 0 <ℤ d → pos 0 <ℤ d' → (q : ℕ) → q * unsigned_abs d ≡ unsigned_abs d' → d' ≡ d *ℤ pos q
+pub whole : (d d' : ℤ) → pos 0 <ℤ d → pos 0 <ℤ d' → (q : ℕ) → q * unsigned_abs d ≡ unsigned_abs d' → d' ≡ d *ℤ pos q
 whole (pos a) (pos b) h k q e = omega (arith, ints, e)
 whole (negsuc a) d' h k q e = absurd (omega (arith, ints))
 whole (pos a) (negsuc b) h k q e = absurd (omega (arith, ints))
 
-quotient_of : (a b d d' : ℤ) (q : ℕ) → pos 0 <ℤ d → d' ≡ d *ℤ pos q → a *ℤ d' ≡ b *ℤ d → b ≡ a *ℤ pos q
+pub quotient_of : (a b d d' : ℤ) (q : ℕ) → pos 0 <ℤ d → d' ≡ d *ℤ pos q → a *ℤ d' ≡ b *ℤ d → b ≡ a *ℤ pos q
 quotient_of a b d d' q over e h =
     let x : b *ℤ d ≡ (a *ℤ pos q) *ℤ d = sym h ∙ ap (λ z. a *ℤ z) (e ∙ mul_comm d (pos q)) ∙ sym (mul_assoc a (pos q) d) in
     cancel b (a *ℤ pos q) (unsigned_abs d) (omega (arith, ints, over)) (subst (λ (z : ℤ). b *ℤ z ≡ (a *ℤ pos q) *ℤ z) (is_pos d over) x)

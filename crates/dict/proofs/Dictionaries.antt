@@ -39,11 +39,11 @@ nonbasic_here row col d h = get_or-set_same d.nonbasic col (form_at d.basic row)
 pub basic_other : (row col i : ℕ) (d : Dictionary) → (i ≡ row → ⊥) → form_at (basic_after row col d) i ≡ form_at d.basic i
 basic_other row col i d h = get_or-set_other d.basic row i (form_at d.nonbasic col) Cost h
 
-basic_here : (row col : ℕ) (d : Dictionary) → row < length d.basic → form_at (basic_after row col d) row ≡ form_at d.nonbasic col
+pub basic_here : (row col : ℕ) (d : Dictionary) → row < length d.basic → form_at (basic_after row col d) row ≡ form_at d.nonbasic col
 basic_here row col d h = get_or-set_same d.basic row (form_at d.nonbasic col) Cost h
 
 -- the worth of the nonbasic forms before and after differs at the place of the exchange alone
-same_values : (row col : ℕ) (d : Dictionary) (m : Form → ℤ) (j : ℕ) → without col (λ k. m (form_at d.nonbasic k)) j ≡ without col (λ k. m (form_at (nonbasic_after row col d) k)) j
+pub same_values : (row col : ℕ) (d : Dictionary) (m : Form → ℤ) (j : ℕ) → without col (λ k. m (form_at d.nonbasic k)) j ≡ without col (λ k. m (form_at (nonbasic_after row col d) k)) j
 same_values row col d m j =
     by_eq j col
     (λ same.
@@ -96,7 +96,7 @@ dictionary_after places row col d rows after is = record {
   rows = rows_after places row col d.rows rows after;
 }
 
-not_zero : (z : ℤ) → pos 0 <ℤ z → z ≡ pos 0 → ⊥
+pub not_zero : (z : ℤ) → pos 0 <ℤ z → z ≡ pos 0 → ⊥
 not_zero z h e = omega (arith, ints, h, e)
 
 -- an exchange over an entry that is not zero keeps independence

@@ -35,7 +35,7 @@ abbrev pub drop_at : ℕ → List (ℕ × ℤ) → List (ℕ × ℤ)
 drop_at e [] = []
 drop_at e (t ∷ ts) = (t.0, cond (eqb t.0 e) (pos 0) t.1) ∷ drop_at e ts
 
-drop_all : (n e : ℕ) (ts : List (ℕ × ℤ)) → AllByRecursion (λ t. t.0 < n) ts → AllByRecursion (λ t. t.0 < n) (drop_at e ts)
+pub drop_all : (n e : ℕ) (ts : List (ℕ × ℤ)) → AllByRecursion (λ t. t.0 < n) ts → AllByRecursion (λ t. t.0 < n) (drop_at e ts)
 drop_all n e [] h = tt
 drop_all n e (t ∷ ts) h = (h.0, drop_all n e ts h.1)
 
@@ -43,7 +43,7 @@ drop_one : (b : Bool) (z x : ℤ) → cond b (pos 0) z *ℤ x ≡ z *ℤ cond b 
 drop_one true z x = zero-*ℤ x ∙ sym (*ℤ-zero z)
 drop_one false z x = refl
 
-weigh_drop : (e : ℕ) (ts : List (ℕ × ℤ)) (v : ℕ → ℤ) → weigh (drop_at e ts) v ≡ weigh ts (without e v)
+pub weigh_drop : (e : ℕ) (ts : List (ℕ × ℤ)) (v : ℕ → ℤ) → weigh (drop_at e ts) v ≡ weigh ts (without e v)
 weigh_drop e [] v = refl
 weigh_drop e (t ∷ ts) v = omega (arith, ints, drop_one (eqb t.0 e) t.1 (v t.0), weigh_drop e ts v)
 

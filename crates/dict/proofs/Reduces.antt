@@ -17,11 +17,11 @@ use Rattle.dict.proofs.Commons.{NarrowEach}
 divides_times : (d g : ℕ) (a : ℤ) → d ∣ unsigned_abs a → d * g ∣ unsigned_abs (a *ℤ pos g)
 divides_times d g a h = subst (λ (n : ℕ). d * g ∣ n) (sym (unsigned_abs-mul a (pos g))) (mul-dvd-mul_right d h g)
 
-divides_scale : (d g : ℕ) (ts : List (ℕ × ℤ)) → DividesEach d ts → DividesEach (d * g) (scale (pos g) ts)
+pub divides_scale : (d g : ℕ) (ts : List (ℕ × ℤ)) → DividesEach d ts → DividesEach (d * g) (scale (pos g) ts)
 divides_scale d g [] h = tt
 divides_scale d g (t ∷ ts) h = (divides_times d g t.1 h.0, divides_scale d g ts h.1)
 
-divides_scaled : (d g : ℕ) (q : Equation) → Divides d q → Divides (d * g) (scaled (pos g) q)
+pub divides_scaled : (d g : ℕ) (q : Equation) → Divides d q → Divides (d * g) (scaled (pos g) q)
 divides_scaled d g q h = record {
   den = divides_times d g q.den h.den;
   constant = divides_times d g q.constant h.constant;
@@ -76,7 +76,7 @@ pub number_entry : (places at : ℕ) (q : Equation) → at < places → number_a
 number_entry places at q h = grind arith
 
 -- an exact quotient
-quotient : ℕ → ℤ → ℤ
+pub quotient : ℕ → ℤ → ℤ
 quotient g (pos n) = pos (n / g)
 quotient g (negsuc n) = neg_ℤ (pos (suc n / g))
 
@@ -88,25 +88,25 @@ neg_exact q g n e =
     let s : (neg_ℤ (pos q) +ℤ pos q) *ℤ pos g ≡ pos 0 = ap (λ y. y *ℤ pos g) none ∙ z in
     omega (arith, ints, sym (mul_add_right (pos g) (neg_ℤ (pos q)) (pos q)) ∙ s, p)
 
-quotient_exact : (g : ℕ) (z : ℤ) → g ∣ unsigned_abs z → quotient g z *ℤ pos g ≡ z
+pub quotient_exact : (g : ℕ) (z : ℤ) → g ∣ unsigned_abs z → quotient g z *ℤ pos g ≡ z
 unfolding quotient
 quotient_exact g (pos n) h = ap pos (div-mul_cancel g h)
 quotient_exact g (negsuc n) h = neg_exact (suc n / g) g n (div-mul_cancel g h)
 
-quotients : ℕ → List (ℕ × ℤ) → List (ℕ × ℤ)
+pub quotients : ℕ → List (ℕ × ℤ) → List (ℕ × ℤ)
 quotients g [] = []
 quotients g (t ∷ ts) = (t.0, quotient g t.1) ∷ quotients g ts
 
-quotients_exact : (g : ℕ) (ts : List (ℕ × ℤ)) → DividesEach g ts → scale (pos g) (quotients g ts) ≡ ts
+pub quotients_exact : (g : ℕ) (ts : List (ℕ × ℤ)) → DividesEach g ts → scale (pos g) (quotients g ts) ≡ ts
 unfolding quotients
 quotients_exact g [] h = refl
 quotients_exact g (t ∷ ts) h =
     ap (λ z. (t.0, z) ∷ scale (pos g) (quotients g ts)) (quotient_exact g t.1 h.0) ∙ ap (λ z. (t.0, t.1) ∷ z) (quotients_exact g ts h.1)
 
-divided : ℕ → Equation → Equation
+pub divided : ℕ → Equation → Equation
 divided g raw = equation (quotient g raw.den) (quotient g raw.constant) (quotients g raw.entries)
 
-divided_exact : (g : ℕ) (raw : Equation) → Divides g raw → scaled (pos g) (divided g raw) ≡ raw
+pub divided_exact : (g : ℕ) (raw : Equation) → Divides g raw → scaled (pos g) (divided g raw) ≡ raw
 unfolding divided
 divided_exact g raw h =
     ap (λ z. equation z (quotient g raw.constant *ℤ pos g) (scale (pos g) (quotients g raw.entries))) (quotient_exact g raw.den h.den)
@@ -132,7 +132,7 @@ pub narrow_terms : (bound low high : ℕ) (ts : List (ℕ × ℤ)) → NarrowEac
 narrow_terms bound low high [] h all = all
 narrow_terms bound low high (t ∷ ts) h all = (all.0, all.1, h.0, narrow_terms bound (t.0 + 1) high ts h.1 all.3)
 
-unscaled_row : (bound g places : ℕ) (q : Equation) → 0 < g → IsRow bound places (scaled (pos g) q) → IsRow bound places q
+pub unscaled_row : (bound g places : ℕ) (q : Equation) → 0 < g → IsRow bound places (scaled (pos g) q) → IsRow bound places q
 unscaled_row bound g places q over is = record {
   positive = sign_of q.den (q.den *ℤ pos g) g refl is.positive;
   den = factor_small q.den g bound over is.den;
@@ -172,13 +172,20 @@ cancel a b g over e =
     let m : unsigned_abs (a -ℤ b) * 1 ≤ unsigned_abs (a -ℤ b) * g = mul-le-mul (omega arith) (omega (arith, over)) in
     omega (arith, ints, u, m)
 
+sides_scaled : (q : Equation) (g : ℕ) (one : ℤ) (v : ℕ → ℤ) → weigh (scale (pos g) q.entries) v +ℤ ((q.constant *ℤ pos g) *ℤ one) ≡ (weigh q.entries v +ℤ (q.constant *ℤ one)) *ℤ pos g
+sides_scaled q g one v =
+    omega (arith, ints, weigh_scale (pos g) q.entries v, to_end q.constant one (pos g), mul_add_right (pos g) (weigh q.entries v) (q.constant *ℤ one))
+
+-- a row and its multiple say the same
+pub holds_scaled : (q : Equation) (g : ℕ) (f one : ℤ) (v : ℕ → ℤ) → Holds q f v one → Holds (scaled (pos g) q) f v one
+holds_scaled q g f one v h = to_end q.den f (pos g) ∙ ap (λ z. z *ℤ pos g) h ∙ sym (sides_scaled q g one v)
+
+pub holds_unscaled : (q : Equation) (g : ℕ) (f one : ℤ) (v : ℕ → ℤ) → 0 < g → Holds (scaled (pos g) q) f v one → Holds q f v one
+holds_unscaled q g f one v over h =
+    cancel (q.den *ℤ f) (weigh q.entries v +ℤ (q.constant *ℤ one)) g over (sym (to_end q.den f (pos g)) ∙ h ∙ sides_scaled q g one v)
+
 pub holds_reduced : (raw made : Equation) (f one : ℤ) (v : ℕ → ℤ) → IsReducedOf raw made → Holds raw f v one → Holds made f v one
-holds_reduced raw q f one v r h =
-    let e : (q.den *ℤ pos r.g) *ℤ f ≡ weigh (scale (pos r.g) q.entries) v +ℤ ((q.constant *ℤ pos r.g) *ℤ one) = subst (λ (x : Equation). Holds x f v one) (sym r.exact) h in
-    let a : (q.den *ℤ pos r.g) *ℤ f ≡ (q.den *ℤ f) *ℤ pos r.g = to_end q.den f (pos r.g) in
-    let b : (q.constant *ℤ pos r.g) *ℤ one ≡ (q.constant *ℤ one) *ℤ pos r.g = to_end q.constant one (pos r.g) in
-    let c : weigh (scale (pos r.g) q.entries) v +ℤ ((q.constant *ℤ pos r.g) *ℤ one) ≡ (weigh q.entries v +ℤ (q.constant *ℤ one)) *ℤ pos r.g = omega (arith, ints, weigh_scale (pos r.g) q.entries v, b, mul_add_right (pos r.g) (weigh q.entries v) (q.constant *ℤ one)) in
-    cancel (q.den *ℤ f) (weigh q.entries v +ℤ (q.constant *ℤ one)) r.g r.positive (sym a ∙ e ∙ c)
+holds_reduced raw q f one v r h = holds_unscaled q r.g f one v r.positive (subst (λ (x : Equation). Holds x f v one) (sym r.exact) h)
 
 -- the row that `reduce` makes of its parts
 pub reduced_row : (places : ℕ) (den constant sd sc g : ℤ) (entries items : List (ℕ × ℤ)) (row : Equation) → IsCommon (unsigned_abs g) (equation den constant entries) → pos 0 <ℤ g → sd *ℤ g ≡ den → sc *ℤ g ≡ constant → scale g items ≡ entries → row ≡ equation sd sc items → IsReducedOf (equation den constant entries) row

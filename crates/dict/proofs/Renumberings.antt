@@ -138,7 +138,7 @@ same_entry a places rows back d t i k l b hi hk hl same =
     let below = terms_below b.two.bound 0 (length t.nonbasic) (row_at t.rows k).entries (b.two.rows k hk).entries in
     s.entries (places l) ∙ ap (λ z. z *ℤ (row_at d.rows i).den) (coefficient_renumber places (length t.nonbasic) l (row_at t.rows k).entries (λ j hj e. injective a places rows back d t l j b hl hj e) below)
 
-past_places : (n l : ℕ) (ts : List (ℕ × ℤ)) → n ≤ l → AllByRecursion (λ t. t.0 < n) ts → coefficient ts l ≡ pos 0
+pub past_places : (n l : ℕ) (ts : List (ℕ × ℤ)) → n ≤ l → AllByRecursion (λ t. t.0 < n) ts → coefficient ts l ≡ pos 0
 past_places n l [] h all = refl
 past_places n l (t ∷ ts) h all =
     let e : cond (eqb t.0 l) t.1 (pos 0) ≡ pos 0 = share_other t.0 l t.1 (λ same. omega (arith, all.0, h, same)) in

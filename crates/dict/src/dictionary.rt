@@ -97,6 +97,14 @@ impl Dict {
         self.columns
     }
 
+    /// The nonbasic forms, one for each column.
+    pub fn nonbasic_forms(&self) -> &[Form]
+        ensures list { result.now ≡ self.now.nonbasic }
+        ensures kept { IsDictionary (length self.now.nonbasic) self.now }
+    {
+        self.nonbasic.as_slice()
+    }
+
     /// The entry of a row at a column, over the denominator of the row.
     pub fn entry(&self, row: u32, col: u32) -> i64
         requires { row < length self.now.rows }
