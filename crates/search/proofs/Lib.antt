@@ -7,3 +7,4 @@ pub mod ChosenLaws
 pub mod Steps
 pub mod Endings
 pub mod Sets
+pub mod PieceOrder

@@ -4,3 +4,4 @@ pub mod Walks
 pub mod Chosen
 pub mod Progress
 pub mod Kept
+pub mod PieceSets
