@@ -3,7 +3,14 @@
 #![tactic(auto)]
 
 mod answer;
+mod enter;
+mod fix;
+mod leave;
+mod next;
 mod simplex;
+mod stages;
+mod values;
+mod walk;
 
 pub use answer::LpAnswer;
 pub use simplex::solve;
