@@ -6,6 +6,7 @@ mod answer;
 mod enter;
 mod fix;
 mod leave;
+mod marks;
 mod next;
 mod simplex;
 mod stages;
