@@ -1,6 +1,6 @@
 -- Of the terms of a row the first form for which something holds.
-use Rattle.std.proofs.Common.{ℕ, zero, suc, ◌+◌, ◌<◌, ◌≤◌, ◌≡◌, ◌∙◌, refl, sym, ap, subst, arith, ℤ, pos, ◌+ℤ◌, neg_ℤ, List, [], ◌∷◌, length, Bool, true, false, Option, Some, None, cond, eqb}
-use Rattle.std.specs.Prelude.{IfSome, IfNone, IsTrue, slice_index_or}
+use Rattle.std.proofs.Common.{ℕ, suc, ◌+◌, ◌<◌, ◌≤◌, ◌≡◌, ◌∙◌, refl, sym, ap, subst, arith, ℤ, pos, ◌+ℤ◌, List, [], ◌∷◌, length, Bool, true, false, Option, Some, None, cond, eqb}
+use Rattle.std.specs.Prelude.{IfSome, IfNone, slice_index_or}
 use Rattle.std.proofs.lemmas.Int.{ints, by_lt_z}
 use Rattle.std.proofs.lemmas.Bool.{eqb-true}
 use Rattle.std.proofs.Math.IntN.{+ℤ_idl}
@@ -9,10 +9,9 @@ use Rattle.lpcc_case.specs.declared.form.Form.{Form}
 use Rattle.lpcc_case.specs.declared.form.Form.TheVariants.{Col, Con, Cost}
 use Rattle.lpcc_case.specs.Instance.{Instance}
 use Rattle.lpcc_case.specs.Points.{coefficient}
-use Rattle.dict.specs.Exchanges.{turn}
 use Rattle.dict.specs.Dictionaries.{Dictionary, form_at, entry_at, row_at}
 use Rattle.dict.proofs.Pivots.{by_eq}
-use Rattle.walks.specs.Duals.{Helps, NoneFree, NoneHelps, is_free}
+use Rattle.walks.specs.Duals.{Helps, NoneFree, NoneHelps}
 use Rattle.walks.specs.Steps.{IsFirst, MayExchange, number}
 use Rattle.lex_simplex.specs.Marks.{FirstAmong, place_at}
 

@@ -1,5 +1,5 @@
 -- The form that leaves.
-use Rattle.std.proofs.Common.{ℕ, zero, suc, ◌+◌, ◌-◌, ◌<◌, ◌≤◌, ◌≡◌, ◌∙◌, refl, sym, ap, subst, arith, ℤ, pos, ◌+ℤ◌, ◌-ℤ◌, ◌*ℤ◌, neg_ℤ, ◌<ℤ◌, List, length, Bool, true, false, Option, Some, None, ◌⊎◌, inl, inr}
+use Rattle.std.proofs.Common.{ℕ, suc, ◌+◌, ◌-◌, ◌<◌, ◌≤◌, ◌≡◌, ◌∙◌, sym, ap, subst, arith, ℤ, pos, ◌*ℤ◌, neg_ℤ, ◌<ℤ◌, List, length, Bool, true, false, Option, Some, None, ◌⊎◌, inl, inr}
 use Rattle.std.specs.Prelude.{unsigned_abs, int_lt, IfSome, IfNone}
 use Rattle.std.proofs.lemmas.Int.{ints}
 use Rattle.std.proofs.Math.IntN.{*ℤ-zero}
@@ -10,8 +10,7 @@ use Rattle.lpcc_case.specs.Instance.{Instance}
 use Rattle.dict.specs.Exchanges.{turn}
 use Rattle.dict.specs.Dictionaries.{Dictionary, row_at, form_at, entry_at}
 use Rattle.dict.proofs.Pivots.{by_eq}
-use Rattle.orders.specs.Order.{IsAbove, IsBelow, IsZero}
-use Rattle.orders.proofs.Orders.{above_cases, above_same, less_trans, by_lt}
+use Rattle.orders.proofs.Orders.{above_cases, above_same, less_trans}
 use Rattle.walks.specs.Values.{is_fixed, parts, value}
 use Rattle.walks.specs.Duals.{IsPlaced}
 use Rattle.walks.specs.Steps.{IsSized, Blocks, IsLeaving, IsSooner, rate, distance, number}
@@ -71,18 +70,18 @@ no_ties a tight stage goal_row col i l down d sized hi hl other bi bl =
     elim (above_cases (parts a) (lead a tight d col down i l)) [
       | inl up ↦ inl up
       | inr rest ↦ elim rest [
-          | inl low ↦ inr (above_same (parts a) (λ p. neg_ℤ (lead a tight d col down i l p)) (lead a tight d col down l i) (λ p lt. omega (arith, ints)) low)
-          | inr none ↦
-              let k = bi.constraint in
-              let inside = free_inside a tight k bi.free in
-              let z = none (suc k) (omega (arith, inside)) in
-              let vl : distance a tight d col down l (suc k) ≡ pos 0 = turn_zero (int_lt (pos 0) (rate d col down l)) (value a tight d l (suc k)) (other_value a tight d i l k sized hi hl other bi.form bi.free) in
-              let left : pos (unsigned_abs (entry_at d i col)) *ℤ distance a tight d col down l (suc k) ≡ pos 0 = ap (λ y. pos (unsigned_abs (entry_at d i col)) *ℤ y) vl ∙ *ℤ-zero (pos (unsigned_abs (entry_at d i col))) in
-              let right : pos (unsigned_abs (entry_at d l col)) *ℤ distance a tight d col down i (suc k) ≡ pos 0 = omega (arith, ints, z, left) in
-              let di = no_product (unsigned_abs (entry_at d l col)) (distance a tight d col down i (suc k)) (entry_size a tight stage goal_row col l down d bl) right in
-              let vi = turn_some (int_lt (pos 0) (rate d col down i)) (value a tight d i (suc k)) di in
-              let own = own_value a tight d i k sized hi bi.form bi.free in
-              absurd (omega (arith, ints, own, vi, (sized.rows i hi).positive))
+        | inl low ↦ inr (above_same (parts a) (λ p. neg_ℤ (lead a tight d col down i l p)) (lead a tight d col down l i) (λ p lt. omega (arith, ints)) low)
+        | inr none ↦
+            let k = bi.constraint in
+            let inside = free_inside a tight k bi.free in
+            let z = none (suc k) (omega (arith, inside)) in
+            let vl : distance a tight d col down l (suc k) ≡ pos 0 = turn_zero (int_lt (pos 0) (rate d col down l)) (value a tight d l (suc k)) (other_value a tight d i l k sized hi hl other bi.form bi.free) in
+            let left : pos (unsigned_abs (entry_at d i col)) *ℤ distance a tight d col down l (suc k) ≡ pos 0 = ap (λ y. pos (unsigned_abs (entry_at d i col)) *ℤ y) vl ∙ *ℤ-zero (pos (unsigned_abs (entry_at d i col))) in
+            let right : pos (unsigned_abs (entry_at d l col)) *ℤ distance a tight d col down i (suc k) ≡ pos 0 = omega (arith, ints, z, left) in
+            let di = no_product (unsigned_abs (entry_at d l col)) (distance a tight d col down i (suc k)) (entry_size a tight stage goal_row col l down d bl) right in
+            let vi = turn_some (int_lt (pos 0) (rate d col down i)) (value a tight d i (suc k)) di in
+            let own = own_value a tight d i k sized hi bi.form bi.free in
+            absurd (omega (arith, ints, own, vi, (sized.rows i hi).positive))
       ]
     ]
 

@@ -5,3 +5,5 @@ pub mod Firsts
 pub mod Leaves
 pub mod Nexts
 pub mod Looks
+pub mod Results
+pub mod EndLaws

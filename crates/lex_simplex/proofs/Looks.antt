@@ -1,17 +1,15 @@
 -- A constraint that was not looked at yet is basic.
-use Rattle.std.proofs.Common.{ℕ, zero, suc, ◌+◌, ◌<◌, ◌≤◌, ◌≡◌, ◌∙◌, refl, sym, ap, subst, arith, List, [], ◌∷◌, length, map, set, inl, inr}
+use Rattle.std.proofs.Common.{ℕ, zero, suc, ◌<◌, ◌≡◌, ◌∙◌, sym, ap, subst, arith, List, [], ◌∷◌, length, map, inl, inr}
 use Rattle.std.specs.List.{range_with_len}
 use Rattle.std.proofs.lemmas.List.{length-set}
 use Rattle.nogoods.specs.declared.choice.Choice.{Choice}
-use Rattle.lpcc_case.specs.declared.form.Form.{Form}
-use Rattle.lpcc_case.specs.declared.form.Form.TheVariants.{Col, Con, Cost}
+use Rattle.lpcc_case.specs.declared.form.Form.TheVariants.{Col, Con}
 use Rattle.lpcc_case.specs.Instance.{Instance}
-use Rattle.dict.specs.Dictionaries.{Dictionary, form_at, nonbasic_after}
-use Rattle.dict.specs.Forms.{start_of}
+use Rattle.dict.specs.Dictionaries.{Dictionary, form_at}
 use Rattle.dict.proofs.Pivots.{by_eq}
 use Rattle.dict.proofs.Dictionaries.{nonbasic_here, nonbasic_other}
 use Rattle.walks.specs.Steps.{IsExchanged, IsFixing}
-use Rattle.walks.specs.Walks.{IsOnWalk, IsPath, Leads, Place, place}
+use Rattle.walks.specs.Walks.{IsOnWalk, IsPath, Leads, Place}
 
 -- each nonbasic constraint is one of the first n
 abbrev AreLooked : ℕ → Dictionary → Type 0
@@ -41,12 +39,12 @@ step_looked : (a : Instance) (tight : List Choice) (q p : Place) → Leads a tig
 step_looked a tight q p leads lt before = elim leads [
   | inl skip ↦ subst (λ (r : Place). AreLooked r.looked r.at) (sym skip.2) (λ j k h form. omega (arith, before skip.0 j k h form))
   | inr more ↦ elim more [
-      | inl fix ↦ subst (λ (r : Place). AreLooked r.looked r.at) (sym fix.6) (after_fixing a tight q.looked fix.1 fix.2 q.at fix.3 fix.4 fix.5 (before fix.0))
-      | inr later ↦ elim later [
-          | inl raise ↦ let same : p.looked ≡ q.looked = ap (λ (r : Place). r.looked) raise.3 in absurd (omega (arith, lt, same, raise.0))
-          | inr pivot ↦ let same : p.looked ≡ q.looked = ap (λ (r : Place). r.looked) pivot.7 in absurd (omega (arith, lt, same, pivot.0))
-        ]
+    | inl fix ↦ subst (λ (r : Place). AreLooked r.looked r.at) (sym fix.6) (after_fixing a tight q.looked fix.1 fix.2 q.at fix.3 fix.4 fix.5 (before fix.0))
+    | inr later ↦ elim later [
+      | inl raise ↦ let same : p.looked ≡ q.looked = ap (λ (r : Place). r.looked) raise.3 in absurd (omega (arith, lt, same, raise.0))
+      | inr pivot ↦ let same : p.looked ≡ q.looked = ap (λ (r : Place). r.looked) pivot.7 in absurd (omega (arith, lt, same, pivot.0))
     ]
+  ]
 ]
 
 path_looked : (a : Instance) (tight : List Choice) (p : Place) (before : List Place) → IsPath a tight p before → p.looked < length a.constraints → AreLooked p.looked p.at

@@ -1,5 +1,5 @@
 -- What comes next in a stage.
-use Rattle.std.proofs.Common.{ℕ, ◌+◌, ◌<◌, ◌≤◌, ◌≡◌, ◌∙◌, sym, subst, arith, length, Bool, inl, inr}
+use Rattle.std.proofs.Common.{ℕ, ◌<◌, ◌≡◌, subst, arith, length, Bool, inl, inr}
 use Rattle.nogoods.specs.declared.choice.Choice.{Choice}
 use Rattle.std.specs.Prelude.{List}
 use Rattle.lpcc_case.specs.declared.form.Form.TheVariants.{Con}
@@ -7,7 +7,7 @@ use Rattle.lpcc_case.specs.Instance.{Instance}
 use Rattle.dict.specs.Dictionaries.{Dictionary, form_at, entry_at}
 use Rattle.walks.specs.Duals.{Helps, IsPlaced}
 use Rattle.walks.specs.Steps.{Blocks, IsEntering, IsFirst, IsSized, IsStageRow, goes_down, is_last}
-use Rattle.walks.specs.Walks.{IsOnWalk, IsRaised, Place, place}
+use Rattle.walks.specs.Walks.{IsOnWalk, IsRaised, Place}
 use Rattle.walks.proofs.Walks.{walk_is_sound}
 use Rattle.lpcc_case.specs.Cases.{IsCase}
 use Rattle.walks.proofs.Points.{con_stands}

@@ -1,5 +1,5 @@
 -- A pivot of the dictionary is a step of the walk.
-use Rattle.std.proofs.Common.{ℕ, suc, ◌+◌, ◌<◌, ◌≤◌, ◌^◌, ◌≡◌, ◌∙◌, refl, sym, ap, subst, arith, List, [], ◌∷◌, length, set, inl, inr}
+use Rattle.std.proofs.Common.{ℕ, suc, ◌+◌, ◌<◌, ◌^◌, ◌≡◌, ◌∙◌, refl, sym, ap, arith, List, ◌∷◌, length, inl, inr}
 use Rattle.std.specs.Prelude.{Result, Ok, Err, OnOk}
 use Rattle.std.proofs.lemmas.List.{length-set}
 use Rattle.nogoods.specs.declared.choice.Choice.{Choice}
@@ -8,7 +8,7 @@ use Rattle.lpcc_case.specs.Cases.{IsCase}
 use Rattle.dict.specs.Dictionaries.{Dictionary, AreRows, form_at, basic_after, nonbasic_after}
 use Rattle.dict.specs.Forms.{IsDictionaryOf}
 use Rattle.walks.specs.Steps.{IsSized, IsExchanged, IsFixing, IsPivot}
-use Rattle.walks.specs.Walks.{Place, place, IsPath, IsOnWalk, IsRaised, IsSkipped, Leads}
+use Rattle.walks.specs.Walks.{Place, place, IsOnWalk, IsRaised, IsSkipped}
 use Rattle.lex_simplex.specs.Rounds.{IsInStage}
 use Rattle.walks.proofs.Walks.{walk_is_sound}
 

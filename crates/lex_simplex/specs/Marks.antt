@@ -3,7 +3,6 @@ use Rattle.std.specs.Prelude.{◌≡◌, ◌<◌, ◌≤◌, ℕ, ℤ, pos, ◌*
 use Rattle.nogoods.specs.declared.choice.Choice.{Choice}
 use Rattle.lpcc_case.specs.Instance.{Instance}
 use Rattle.lpcc_case.specs.declared.form.Form.{Form}
-use Rattle.lpcc_case.specs.declared.form.Form.TheVariants.{Con}
 use Rattle.dict.specs.Dictionaries.{Dictionary, form_at, entry_at}
 use Rattle.walks.specs.Values.{is_fixed}
 use Rattle.walks.specs.Steps.{Blocks, IsSooner, distance, number}

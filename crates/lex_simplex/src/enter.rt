@@ -111,7 +111,11 @@ fn better(
     }
     match best {
         None => Some(term.0),
-        Some(b) => if is_before(case, dict, term.0, b) { Some(term.0) } else { Some(b) },
+        Some(b) => if is_before(case, dict, term.0, b) {
+            Some(term.0)
+        } else {
+            Some(b)
+        },
     }
 }
 
@@ -164,7 +168,11 @@ fn freer(
     }
     match best {
         None => Some(term.0),
-        Some(b) => if is_before(case, dict, term.0, b) { Some(term.0) } else { Some(b) },
+        Some(b) => if is_before(case, dict, term.0, b) {
+            Some(term.0)
+        } else {
+            Some(b)
+        },
     }
 }
 

@@ -41,7 +41,11 @@ fn look_in_row(case: &Case, tight: &NoGood, fixed: &[bool], dict: &Dict, k: u32,
 {
     match exchangeable(case, tight, fixed, dict, row) {
         Some(col) => Look::Exchange(row, col),
-        None => if dict.constant(row) == 0 { Look::Skip } else { Look::Inconsistent(row) },
+        None => if dict.constant(row) == 0 {
+            Look::Skip
+        } else {
+            Look::Inconsistent(row)
+        },
     }
 }
 
@@ -76,7 +80,12 @@ impl Walk {
     }
 
     /// Looks at the next constraint, and exchanges it where it is fixed and can be exchanged.
-    fn look_on(&mut self, case: &Case, tight: &NoGood, fixed: &[bool]) -> Result<Option<End>, AllocError>
+    fn look_on(
+        &mut self,
+        case: &Case,
+        tight: &NoGood,
+        fixed: &[bool],
+    ) -> Result<Option<End>, AllocError>
         requires marks { AreMarks case.now tight.now fixed.now }
         requires on { IsOnWalk case.now tight.now self.old }
         requires looked { self.old.looked < length case.now.constraints }
@@ -102,7 +111,12 @@ impl Walk {
 }
 
 /// Exchanges the fixed constraints, in their order.
-pub fn fix_all(case: &Case, tight: &NoGood, fixed: &[bool], walk: &mut Walk) -> Result<Option<End>, AllocError>
+pub fn fix_all(
+    case: &Case,
+    tight: &NoGood,
+    fixed: &[bool],
+    walk: &mut Walk,
+) -> Result<Option<End>, AllocError>
     requires marks { AreMarks case.now tight.now fixed.now }
     requires on { IsOnWalk case.now tight.now walk.old }
     requires looked { walk.old.looked ≡ 0 }

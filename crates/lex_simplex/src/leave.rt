@@ -50,7 +50,10 @@ fn far(
     ensures value { result ≡ distance case.now tight.now dict.now col down row p }
     ensures narrow { IsNarrow result }
 {
-    turned(rises(dict, row, col, down), part(case, tight, fixed, dict, row, p))
+    turned(
+        rises(dict, row, col, down),
+        part(case, tight, fixed, dict, row, p),
+    )
 }
 
 fn turned(flip: bool, z: i64) -> i64
@@ -99,8 +102,14 @@ fn lead_at(
     ensures value { result ≡ lead case.now tight.now dict.now col down i l p }
     ensures small { unsigned_abs result < 2 ^ 127 }
 {
-    let here = product(size(dict, i, col), far(case, tight, fixed, dict, col, down, l, p));
-    let there = product(size(dict, l, col), far(case, tight, fixed, dict, col, down, i, p));
+    let here = product(
+        size(dict, i, col),
+        far(case, tight, fixed, dict, col, down, l, p),
+    );
+    let there = product(
+        size(dict, l, col),
+        far(case, tight, fixed, dict, col, down, i, p),
+    );
     difference(here, there)
 }
 
@@ -153,7 +162,8 @@ fn blocks(
     let rate_falls = if down { z > 0 } else { z < 0 };
     let rate_rises = if down { z < 0 } else { z > 0 };
     match dict.basic(i) {
-        Form::Con(k) => !fixed[k as usize] && (k < stage && rate_falls || i == goal_row && k == stage && rate_rises),
+        Form::Con(k) => !fixed[k as usize]
+            && (k < stage && rate_falls || i == goal_row && k == stage && rate_rises),
         _ => false,
     }
 }
@@ -183,7 +193,11 @@ fn sooner_of(
     }
     match best {
         None => Some(i),
-        Some(b) => if sooner(case, tight, fixed, dict, col, down, i, b) { Some(i) } else { Some(b) },
+        Some(b) => if sooner(case, tight, fixed, dict, col, down, i, b) {
+            Some(i)
+        } else {
+            Some(b)
+        },
     }
 }
 
@@ -206,7 +220,9 @@ pub fn leaving(
 {
     let mut best: Option<u32> = None;
     for i in 0..dict.rows() {
-        best = sooner_of(case, tight, fixed, dict, stage, goal_row, col, down, best, i);
+        best = sooner_of(
+            case, tight, fixed, dict, stage, goal_row, col, down, best, i,
+        );
     }
     best
 }

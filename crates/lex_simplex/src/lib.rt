@@ -3,6 +3,7 @@
 #![tactic(auto)]
 
 mod answer;
+mod ends;
 mod enter;
 mod fix;
 mod leave;

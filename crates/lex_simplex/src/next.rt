@@ -70,7 +70,16 @@ fn next_in_row(
 {
     match entering(case, tight, fixed, dict, row, falls(case, stage)) {
         None => Next::Stuck(row),
-        Some(col) => match leaving(case, tight, fixed, dict, stage, row, col, is_down(case, dict, stage, row, col)) {
+        Some(col) => match leaving(
+            case,
+            tight,
+            fixed,
+            dict,
+            stage,
+            row,
+            col,
+            is_down(case, dict, stage, row, col),
+        ) {
             None => Next::Open(row, col),
             Some(leaves) => Next::Pivot(leaves, col),
         },
@@ -78,13 +87,7 @@ fn next_in_row(
 }
 
 /// What comes next in the stage of a constraint that is not fixed.
-fn next_raising(
-    case: &Case,
-    tight: &NoGood,
-    fixed: &[bool],
-    dict: &Dict,
-    stage: u32,
-) -> Next
+fn next_raising(case: &Case, tight: &NoGood, fixed: &[bool], dict: &Dict, stage: u32) -> Next
     requires marks { AreMarks case.now tight.now fixed.now }
     requires sized { IsSized case.now dict.now }
     requires placed { IsPlaced case.now dict.now }
@@ -107,13 +110,7 @@ fn next_raising(
 }
 
 /// What comes next in a stage.
-pub fn what_next(
-    case: &Case,
-    tight: &NoGood,
-    fixed: &[bool],
-    dict: &Dict,
-    stage: u32,
-) -> Next
+pub fn what_next(case: &Case, tight: &NoGood, fixed: &[bool], dict: &Dict, stage: u32) -> Next
     requires marks { AreMarks case.now tight.now fixed.now }
     requires sized { IsSized case.now dict.now }
     requires placed { IsPlaced case.now dict.now }

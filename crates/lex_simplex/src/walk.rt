@@ -132,7 +132,13 @@ impl Walk {
 
     /// Exchanges the fixed constraint that is looked at. After a fault the walk stands where it
     /// stood.
-    pub(crate) fn fix(&mut self, case: &Case, tight: &NoGood, row: u32, col: u32) -> Result<(), PivotFault>
+    pub(crate) fn fix(
+        &mut self,
+        case: &Case,
+        tight: &NoGood,
+        row: u32,
+        col: u32,
+    ) -> Result<(), PivotFault>
         requires on { IsOnWalk case.now tight.now self.old }
         requires looked { self.old.looked < length case.now.constraints }
         requires fixing { IsFixing case.now tight.now self.old.looked self.old.at row col }
@@ -195,7 +201,14 @@ impl Walk {
     }
 
     /// Makes this pivot, unless the budget is spent.
-    fn try_pivot(&mut self, case: &Case, tight: &NoGood, row: u32, col: u32, budget: u64) -> Result<Round, AllocError>
+    fn try_pivot(
+        &mut self,
+        case: &Case,
+        tight: &NoGood,
+        row: u32,
+        col: u32,
+        budget: u64,
+    ) -> Result<Round, AllocError>
         requires on { IsOnWalk case.now tight.now self.old }
         requires stage { IsInStage case.now self.old }
         requires pivot { IsPivot case.now tight.now self.old.stage self.old.at row col }

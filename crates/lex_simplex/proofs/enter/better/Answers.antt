@@ -1,4 +1,4 @@
-use Rattle.std.proofs.Common.{ℕ, ◌≡◌, ℤ, sym, subst}
+use Rattle.std.proofs.Common.{ℤ, sym, subst}
 use Rattle.std.proofs.lemmas.Bool.{both_ways}
 use Rattle.lp_base.proofs.Machine.{narrow_again}
 use Rattle.dict.specs.Dictionaries.{form_at, entry_at}

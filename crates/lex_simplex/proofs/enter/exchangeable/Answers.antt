@@ -1,4 +1,4 @@
-use Rattle.std.proofs.Common.{ℕ, ◌≡◌, ◌≤◌, arith, length}
+use Rattle.std.proofs.Common.{arith}
 use Rattle.lex_simplex.proofs.Firsts.{first_exchangeable, none_exchangeable}
 use Rattle.lex_simplex.proofs.enter.exchangeable.Goals as goal
 

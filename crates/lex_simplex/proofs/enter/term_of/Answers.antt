@@ -1,4 +1,4 @@
-use Rattle.std.proofs.Common.{ℕ, ◌≡◌, ◌<◌, ◌^◌, refl}
+use Rattle.std.proofs.Common.{◌^◌, refl}
 use Rattle.dict.proofs.SparseSums.{coefficient_at, term_within}
 use Rattle.lex_simplex.proofs.enter.term_of.Goals as goal
 

@@ -1,4 +1,4 @@
-use Rattle.std.proofs.Common.{ℕ, ◌≡◌, ◌<◌, arith, length, inl, inr}
+use Rattle.std.proofs.Common.{arith, inl, inr}
 use Rattle.walks.proofs.Points.{con_stands}
 use Rattle.lex_simplex.proofs.fix.look_at.Goals as goal
 

@@ -1,4 +1,4 @@
-use Rattle.std.proofs.Common.{ℕ, ◌≡◌, ◌≤◌, arith, length}
+use Rattle.std.proofs.Common.{◌≡◌, arith, length}
 use Rattle.lex_simplex.proofs.Leaves.{some_leaves, none_leaves}
 use Rattle.lex_simplex.proofs.leave.leaving.Goals as goal
 

@@ -1,4 +1,4 @@
-use Rattle.std.proofs.Common.{ℕ, ◌+◌, ◌<◌, ◌≤◌, ◌≡◌, ◌∙◌, sym, ap, arith, length}
+use Rattle.std.proofs.Common.{◌∙◌, sym, arith}
 use Rattle.walks.specs.Values.{parts}
 use Rattle.lex_simplex.specs.Marks.{lead}
 use Rattle.lex_simplex.proofs.Scans.{scanned_wide, scan_more, zero_bits_wide}

@@ -1,4 +1,4 @@
-use Rattle.std.proofs.Common.{ℕ, ◌≡◌, subst, Option}
+use Rattle.std.proofs.Common.{ℕ, subst, Option}
 use Rattle.std.proofs.lemmas.Bool.{both_ways}
 use Rattle.lex_simplex.specs.Marks.{SoonestUpto}
 use Rattle.lex_simplex.proofs.Leaves.{soonest_stays, soonest_found, soonest_new, soonest_old}

@@ -1,4 +1,4 @@
-use Rattle.std.proofs.Common.{◌≡◌, subst, Option}
+use Rattle.std.proofs.Common.{subst, Option}
 use Rattle.std.specs.Prelude.{IfSome}
 use Rattle.lex_simplex.specs.declared.walk.End.{End}
 use Rattle.lex_simplex.specs.Rounds.{IsEnd}

@@ -1,4 +1,4 @@
-use Rattle.std.proofs.Common.{ℕ, ◌≡◌, ◌≤◌, ◌-◌}
+use Rattle.std.proofs.Common.{◌≡◌, ◌≤◌, ◌-◌}
 use Rattle.walks.specs.Walks.{IsOnWalk}
 use Rattle.lex_simplex.specs.Rounds.{IsInStage}
 use Rattle.lex_simplex.proofs.stages.run_stage.Given as goal

@@ -1,4 +1,4 @@
-use Rattle.std.proofs.Common.{ℕ, ◌≡◌, ◌≤◌, ◌-◌, length}
+use Rattle.std.proofs.Common.{◌≤◌, ◌-◌, length}
 use Rattle.walks.specs.Walks.{IsOnWalk}
 use Rattle.lex_simplex.specs.Rounds.{IsInStage}
 use Rattle.lex_simplex.proofs.stages.run_stages.Given as goal

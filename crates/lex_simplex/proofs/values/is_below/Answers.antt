@@ -1,4 +1,4 @@
-use Rattle.std.proofs.Common.{ℕ, ◌+◌, ◌<◌, ◌≤◌, ◌≡◌, ◌∙◌, sym, ap, arith, length}
+use Rattle.std.proofs.Common.{◌∙◌, sym, arith}
 use Rattle.walks.specs.Values.{parts, value}
 use Rattle.lex_simplex.proofs.Scans.{scanned, scan_more, zero_bits}
 use Rattle.lex_simplex.proofs.values.is_below.Goals as goal

@@ -1,4 +1,4 @@
-use Rattle.std.proofs.Common.{ℕ, ◌<◌, ◌≤◌, ◌-◌, ◌≡◌, ◌∙◌, sym, ap, arith, length}
+use Rattle.std.proofs.Common.{◌<◌, ◌-◌, ◌∙◌, sym, arith, length}
 use Rattle.lex_simplex.proofs.Scans.{number_again}
 use Rattle.lex_simplex.proofs.Shares.{part_constant, part_of_fixed, part_of_free}
 use Rattle.lex_simplex.proofs.values.part.Goals as goal

@@ -1,4 +1,4 @@
-use Rattle.std.proofs.Common.{◌≡◌, ◌∙◌, sym}
+use Rattle.std.proofs.Common.{◌∙◌, sym}
 use Rattle.std.proofs.lemmas.Bool.{both_ways}
 use Rattle.lex_simplex.proofs.Scans.{number_again, negated_again}
 use Rattle.lex_simplex.proofs.Shares.{share_own, share_at_place, share_of_none}

@@ -1,4 +1,4 @@
-use Rattle.std.proofs.Common.{◌≡◌, sym, subst, refl, length, ◌<◌}
+use Rattle.std.proofs.Common.{sym, subst, refl, length, ◌<◌}
 use Rattle.walks.specs.Steps.{IsFixing}
 use Rattle.walks.specs.Walks.{Place, IsOnWalk}
 use Rattle.lex_simplex.proofs.Steps.{on_fix, walk_sized}

@@ -1,4 +1,4 @@
-use Rattle.std.proofs.Common.{◌≡◌, sym, subst}
+use Rattle.std.proofs.Common.{sym, subst}
 use Rattle.walks.specs.Walks.{Place, IsOnWalk}
 use Rattle.lex_simplex.specs.Rounds.{IsNext}
 use Rattle.lex_simplex.proofs.Steps.{walk_sized}

@@ -1,4 +1,4 @@
-use Rattle.std.proofs.Common.{◌≡◌, sym, subst, refl, length, ◌≤◌}
+use Rattle.std.proofs.Common.{sym, subst, refl}
 use Rattle.walks.specs.Steps.{IsPivot}
 use Rattle.walks.specs.Walks.{Place, IsOnWalk}
 use Rattle.lex_simplex.specs.Rounds.{IsInStage}

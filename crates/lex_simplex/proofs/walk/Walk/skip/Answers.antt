@@ -1,4 +1,4 @@
-use Rattle.std.proofs.Common.{◌≡◌, sym, subst, refl, length, ◌<◌}
+use Rattle.std.proofs.Common.{sym, subst, refl, length, ◌<◌}
 use Rattle.walks.specs.Walks.{Place, IsOnWalk, IsSkipped}
 use Rattle.lex_simplex.proofs.Steps.{on_skip}
 use Rattle.lex_simplex.proofs.walk.Walk.skip.Goals as goal
