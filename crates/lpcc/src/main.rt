@@ -1,23 +1,15 @@
 //! `lpcc`, an exact global solver for linear programs with complementarity constraints.
 #![tactic(auto)]
 
-#[cfg(test)]
-mod case_tests;
-#[cfg(test)]
-mod certificate_tests;
-#[cfg(test)]
-mod deck_tests;
-#[cfg(test)]
-mod layer_tests;
 mod run;
 #[cfg(test)]
 mod tests;
 
+use command::give_no_memory;
 use lp_io::{StdSink, StdSource};
 use run::{refuse_words, run_alone};
 use std::io;
 use std::process::ExitCode;
-use verifier::give_no_memory;
 
 /// The words behind the program's name.
 fn words_of(rt: &HostRuntime) -> io::Result<Vec<String>> {

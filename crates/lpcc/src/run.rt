@@ -1,25 +1,13 @@
 //! The top call: words, a source and a sink.
-ghost use Rattle.std.specs.Prelude.{◌≡◌, ◌<◌, ◌↔◌, ◌⊎◌, ℕ, List, IsTrue, Some, length, map, string_bytes};
-ghost use Rattle.std.specs.Io.KnownBytes.{Appends};
-ghost use Rattle.lp_io.specs.Faults.{Rose};
-ghost use Rattle.lpcc_case.specs.Instance.{Instance};
-ghost use Rattle.lpcc_case.specs.declared.verdict.Verdict.{Verdict};
-ghost use Rattle.lpcc_case.specs.Verdicts.{IsTrueOf};
-ghost use Rattle.mps_pairs.specs.declared.fault.DeckWhy.{DeckWhy};
-ghost use Rattle.deck_case.specs.declared.fault.CaseFault.{CaseFault};
-ghost use Rattle.cert_text.specs.declared.fault.CertWhy.{CertWhy};
-ghost use Rattle.cert_check.specs.declared.accept.NoWhy.{NoWhy};
-ghost use Rattle.verifier.specs.declared.answer.Answer.{Answer};
-ghost use Rattle.verifier.specs.declared.answer.Answer.TheVariants.{Yes};
-ghost use Rattle.verifier.specs.declared.judging.TheConstants.{MOST_BYTES};
-ghost use Rattle.verifier.specs.Answers.{status_of, text_of};
-ghost use Rattle.verifier.specs.Causes.{HasCertificateFault, HasDeckFault, HasNoCase, IsAccepted, IsCause, IsRefused, SpellsCase, is_free};
-ghost use Rattle.verifier.specs.Runs.{IsAnswer, IsWritten};
+ghost use Rattle.std.specs.Prelude.{◌≡◌, ◌↔◌, ℕ, List, IsTrue, Some, map, string_bytes};
+ghost use Rattle.command.specs.Answers.{IsWritten};
+ghost use Rattle.verifier.specs.Runs.{IsChecked, SaysYes};
 ghost use Rattle.lpcc.specs.Commands.{IsCheck, words_refused};
 
+use command::{Status, give};
 use lp_io::{Sink, Source};
 use std::alloc::Global;
-use verifier::{Status, give, verify};
+use verifier::{a_status_tells_the_answer, verify};
 
 /// The status where the words are no command.
 const NO_COMMAND: Status = 2;
@@ -54,47 +42,17 @@ pub fn run_alone<S: Source, K: Sink>(
     ensures words_only { result ≡ NO_COMMAND → IsCheck (map string_bytes words.now) → ⊥ }
     ensures untouched { (IsCheck (map string_bytes words.now) → ⊥) → src.new ≡ src.old }
 
-    // To `check` one answer is right, and it is written: its text whole, or after a counted fault a front of it.
-    ensures answered { IsCheck (map string_bytes words.now) → (answer : Answer)
-        × IsAnswer (S.left src.old) (S.faults src.old) (S.faults src.new) answer
-        × IsWritten (K.taken out.old) (K.taken out.new) (K.faults out.old) (K.faults out.new) (text_of answer) (status_of answer) result }
+    // To `check` one answer is right, and it is written.
+    ensures answered { IsCheck (map string_bytes words.now) →
+        IsChecked (S.left src.old) (S.faults src.old) (S.faults src.new)
+        (K.taken out.old) (K.taken out.new) (K.faults out.old) (K.faults out.new) result }
 
-    // Each answer to `check` comes wherever the bytes are its cause, unless reading fails or memory runs out.
-    ensures exact { IsCheck (map string_bytes words.now) → (bytes : List ℕ) → S.left src.old ≡ Some bytes →
-        (expected : Answer) → IsCause bytes expected → (answer : Answer) × ((answer ≡ expected) ⊎ IsTrue (is_free answer))
-        × IsAnswer (S.left src.old) (S.faults src.old) (S.faults src.new) answer
-        × IsWritten (K.taken out.old) (K.taken out.new) (K.faults out.old) (K.faults out.new) (text_of answer) (status_of answer) result }
-
-    // Faults of reading and of writing are counted. Where no write failed, the sink has grown by
-    // exactly the text of an answer with this status.
-    ensures read_fault { result ≡ 4 → Rose (S.faults src.old) (S.faults src.new) }
-    ensures write_fault { result ≡ 5 → Rose (K.faults out.old) (K.faults out.new) }
-    ensures written { IsCheck (map string_bytes words.now) → (result ≡ 5 → ⊥) → (answer : Answer) × (result ≡ status_of answer)
-        × Appends (K.taken out.old) (K.taken out.new) (text_of answer) }
-
-    // Status 0 comes with the text `yes` and a verdict only where a certificate behind the deck is
-    // accepted with this verdict; there it comes, unless reading, writing or memory fails.
+    // Status 0 is `yes`: a certificate is accepted with a verdict, which is true of the deck and
+    // is written.
     ensures yes { result ≡ 0 → (bytes : List ℕ) → S.left src.old ≡ Some bytes →
-        (verdict : Verdict) × IsAccepted bytes verdict × Appends (K.taken out.old) (K.taken out.new) (text_of (Yes verdict)) }
-    ensures accepted { IsCheck (map string_bytes words.now) → (bytes : List ℕ) → S.left src.old ≡ Some bytes →
-        (verdict : Verdict) → IsAccepted bytes verdict →
-        ((result ≡ 0) × Appends (K.taken out.old) (K.taken out.new) (text_of (Yes verdict)))
-        ⊎ (result ≡ 4) ⊎ (result ≡ 5) ⊎ (result ≡ 6) }
-
-    // At status 0 the verdict that is written is true of the case of the deck that the bytes spell.
-    ensures true_verdict { result ≡ 0 → (bytes : List ℕ) → S.left src.old ≡ Some bytes →
-        (a : Instance) × (rest : List ℕ) × (verdict : Verdict) × SpellsCase bytes a rest × IsTrueOf a verdict
-        × Appends (K.taken out.old) (K.taken out.new) (text_of (Yes verdict)) }
-
-    // What the other statuses say of the input, where its bytes are told.
-    ensures no { result ≡ 1 → (bytes : List ℕ) → S.left src.old ≡ Some bytes →
-        ((line : ℕ) × (why : CertWhy) × HasCertificateFault bytes line why)
-        ⊎ ((line : ℕ) × (why : NoWhy) × IsRefused bytes line why) }
-    ensures refused { result ≡ 3 → (bytes : List ℕ) → S.left src.old ≡ Some bytes →
-        (MOST_BYTES < length bytes)
-        ⊎ ((line : ℕ) × (why : DeckWhy) × HasDeckFault bytes line why)
-        ⊎ ((fault : CaseFault) × HasNoCase bytes fault) }
+        SaysYes bytes (K.taken out.old) (K.taken out.new) }
 {
+    a_status_tells_the_answer();
     if is_check(words) {
         verify(alloc, src, out)
     } else {

@@ -5,11 +5,11 @@ mod run;
 #[cfg(test)]
 mod tests;
 
+use command::give_no_memory;
 use lp_io::{StdSink, StdSource};
 use run::{refuse_words, run_check};
 use std::io;
 use std::process::ExitCode;
-use verifier::give_no_memory;
 
 /// The words behind the program's name.
 fn words_of(rt: &HostRuntime) -> io::Result<Vec<String>> {

@@ -1,4 +1,3 @@
-pub mod Layers
 pub mod Exits
-pub mod Statuses
 pub mod OneAnswer
+pub mod Statuses

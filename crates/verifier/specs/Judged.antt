@@ -1,35 +1,35 @@
--- The answers that go with the faults of the readers and of acceptance.
-use Rattle.std.specs.Prelude.{Result, Ok, Err}
-use Rattle.lpcc_case.specs.declared.verdict.Verdict.{Verdict}
-use Rattle.mps_pairs.specs.declared.fault.DeckFault.{DeckFault}
-use Rattle.mps_pairs.specs.declared.fault.DeckFault.TheVariants as deck_fault
-use Rattle.deck_case.specs.declared.fault.CaseFault.{CaseFault}
-use Rattle.deck_case.specs.declared.fault.CaseFault.TheVariants as case_fault
+-- The answers that go with the faults of a certificate's reader and of acceptance, and what is to be shown of an answer.
+use Rattle.std.specs.Prelude.{ℕ, List}
+use Rattle.lpcc_case.specs.Instance.{Instance}
+use Rattle.cert_text.specs.declared.cert.Cert.{Cert}
 use Rattle.cert_text.specs.declared.fault.CertFault.{CertFault}
 use Rattle.cert_text.specs.declared.fault.CertFault.TheVariants as certificate_fault
+use Rattle.cert_text.specs.Texts as certificate_texts
 use Rattle.cert_check.specs.declared.accept.CheckFault.{CheckFault}
 use Rattle.cert_check.specs.declared.accept.CheckFault.TheVariants as check_fault
+use Rattle.cert_check.specs.Acceptance.{Accepts, Refuses}
+use Rattle.command.specs.declared.refusal.Refusal.TheVariants as refusal
 use Rattle.verifier.specs.declared.answer.Answer.{Answer}
-use Rattle.verifier.specs.declared.answer.Answer.TheVariants.{Deck, RowWide, TooMany, Certificate, No, Yes, NoMemory}
-
-abbrev pub of_deck_fault : DeckFault → Answer
-of_deck_fault (deck_fault.NoMemory error) = NoMemory
-of_deck_fault (deck_fault.At line why) = Deck line why
-
-abbrev pub of_case_fault : CaseFault → Answer
-of_case_fault (case_fault.NoMemory error) = NoMemory
-of_case_fault (case_fault.RowWide line) = RowWide line
-of_case_fault (case_fault.TooMany line) = TooMany line
+use Rattle.verifier.specs.declared.answer.Answer.TheVariants.{Refused, Certificate, No, Yes}
 
 abbrev pub of_certificate_fault : CertFault → Answer
-of_certificate_fault (certificate_fault.NoMemory error) = NoMemory
+of_certificate_fault (certificate_fault.NoMemory error) = Refused refusal.NoMemory
 of_certificate_fault (certificate_fault.At line why) = Certificate line why
 
 abbrev pub of_check_fault : CheckFault → Answer
-of_check_fault (check_fault.NoMemory error) = NoMemory
+of_check_fault (check_fault.NoMemory error) = Refused refusal.NoMemory
 of_check_fault (check_fault.No line why) = No line why
 
--- the answer where the certificate is accepted with the verdict, or what is answered in its place
-abbrev pub answer_of : Result Verdict Answer → Answer
-answer_of (Ok verdict) = Yes verdict
-answer_of (Err answer) = answer
+-- acceptance of this certificate for this case is the cause of the answer
+abbrev pub OfCertificate : Instance → Cert → Answer → Type 0
+OfCertificate a cert (Refused refusal) = ⊥
+OfCertificate a cert (Certificate line why) = ⊥
+OfCertificate a cert (No line why) = Refuses a cert line why
+OfCertificate a cert (Yes verdict) = Accepts a cert verdict
+
+-- with this case, the bytes behind the deck are the cause of the answer
+abbrev pub OfRest : Instance → List ℕ → Answer → Type 0
+OfRest a rest (Refused refusal) = ⊥
+OfRest a rest (Certificate line why) = certificate_texts.Fails rest line why
+OfRest a rest (No line why) = (cert : Cert) × certificate_texts.Spells rest cert × Refuses a cert line why
+OfRest a rest (Yes verdict) = (cert : Cert) × certificate_texts.Spells rest cert × Accepts a cert verdict

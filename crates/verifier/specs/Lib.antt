@@ -1,4 +1,4 @@
 pub mod Answers
+pub mod Judged
 pub mod Causes
 pub mod Runs
-pub mod Judged

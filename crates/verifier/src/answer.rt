@@ -4,7 +4,7 @@ ghost use Rattle.verifier.specs.Answers.{status_of, text_of};
 
 use cert_check::{NoWhy, Verdict};
 use cert_text::CertWhy;
-use mps_pairs::DeckWhy;
+use command::Refusal;
 use std::alloc::{AllocError, Global};
 use std::fmt;
 
@@ -12,24 +12,14 @@ use std::fmt;
 /// certificate among the lines that are no comments.
 #[derive(Clone, Copy, Debug, PartialEq, Eq)]
 pub enum Answer {
-    /// Reading the input failed.
-    ReadFault,
-    /// The input has more bytes than are taken.
-    TooLong,
-    /// The first line of the deck with a fault.
-    Deck { line: u32, why: DeckWhy },
-    /// The line that names a row or bound with a number that is too wide for a case.
-    RowWide { line: u32 },
-    /// The deck has more constraints than a case may have. The line is that of ENDATA.
-    TooMany { line: u32 },
+    /// There is no case to judge by, or memory ran out.
+    Refused(Refusal),
     /// The first line of the certificate with a fault.
     Certificate { line: u32, why: CertWhy },
     /// The first line of the certificate that fails for the case of the deck.
     No { line: u64, why: NoWhy },
     /// The certificate is accepted for the case of the deck.
     Yes(Verdict),
-    /// Memory ran out.
-    NoMemory,
 }
 
 /// The answer's one line, without its end.
@@ -41,17 +31,12 @@ impl fmt::Display for Answer {
 
     fn fmt<W: fmt::Write>(&self, f: &mut fmt::Formatter<W>) -> fmt::Result {
         match *self {
-            Answer::ReadFault => f.write_str("read fault"),
-            Answer::TooLong => f.write_str("deck: too long"),
-            Answer::Deck { line, why } => write!(f, "deck: line {line}: {}", why.name()),
-            Answer::RowWide { line } => write!(f, "deck: line {line}: RowWide"),
-            Answer::TooMany { line } => write!(f, "deck: line {line}: TooMany"),
+            Answer::Refused(refusal) => write!(f, "{refusal}"),
             Answer::Certificate { line, why } => write!(f, "no line {line} {}", why.name()),
             Answer::No { line, why } => write!(f, "no line {line} {}", why.name()),
             Answer::Yes(Verdict::Optimal(value)) => write!(f, "yes optimal {value}"),
             Answer::Yes(Verdict::Infeasible) => f.write_str("yes infeasible"),
             Answer::Yes(Verdict::Unbounded) => f.write_str("yes unbounded"),
-            Answer::NoMemory => f.write_str("no memory"),
         }
     }
 }
@@ -71,12 +56,7 @@ impl Answer {
         match *self {
             Answer::Yes(_) => 0,
             Answer::Certificate { .. } | Answer::No { .. } => 1,
-            Answer::TooLong
-            | Answer::Deck { .. }
-            | Answer::RowWide { .. }
-            | Answer::TooMany { .. } => 3,
-            Answer::ReadFault => 4,
-            Answer::NoMemory => 6,
+            Answer::Refused(refusal) => refusal.status(),
         }
     }
 }

@@ -5,10 +5,8 @@ mod answer;
 mod judging;
 mod laws;
 mod running;
-mod writing;
 
 pub use answer::Answer;
 pub use judging::{MOST_BYTES, judge};
-pub use laws::an_input_has_one_answer;
+pub use laws::{a_status_tells_the_answer, an_input_has_one_answer, each_cause_is_answered};
 pub use running::verify;
-pub use writing::{Status, give, give_no_memory};

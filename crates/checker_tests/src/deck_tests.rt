@@ -1,5 +1,5 @@
 //! Decks that are refused, each with the line and the reason, and decks that are read.
-use crate::tests::{CERTIFICATE, DECK, answers, answers_both, with_line};
+use crate::command_tests::{CERTIFICATE, DECK, answers, answers_both, with_line};
 use std::alloc::Global;
 use std::test::Fail;
 

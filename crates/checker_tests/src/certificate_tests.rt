@@ -1,5 +1,5 @@
 //! Certificates behind the three smallest decks, each with a line changed.
-use crate::tests::{
+use crate::command_tests::{
     BOUNDED_DECK, CERTIFICATE, DECK, FALLING_DECK, OPTIMAL, UNBOUNDED, answers, answers_both,
     first_lines, with_line,
 };

@@ -1,17 +1,17 @@
 //! Writing an answer.
 ghost use Rattle.std.specs.Prelude.{◌≡◌};
-ghost use Rattle.verifier.specs.declared.answer.Answer.TheVariants.{NoMemory};
-ghost use Rattle.verifier.specs.Answers.{status_of, text_of};
-ghost use Rattle.verifier.specs.Runs.{IsWritten};
+ghost use Rattle.command.specs.Answers.{IsWritten};
+ghost use Rattle.command.specs.Refusals.{status_of, text_of};
+ghost use Rattle.command.specs.declared.refusal.Refusal.TheVariants.{NoMemory};
 
-use crate::answer::Answer;
+use crate::refusal::Refusal;
 use lp_io::{Sink, put_all};
 
 /// The number that a program ends with.
 pub type Status = u8;
 
 /// The status where the text could not be written.
-const WRITE_FAULT: Status = 5;
+pub const WRITE_FAULT: Status = 5;
 
 /// Writes the text, and answers the status that goes with it, or 5 where writing failed. It takes
 /// no memory.
@@ -28,5 +28,5 @@ pub fn give<K: Sink>(text: &[u8], status: Status, out: &mut K) -> Status
 pub fn give_no_memory<K: Sink>(out: &mut K) -> Status
     ensures { IsWritten (K.taken out.old) (K.taken out.new) (K.faults out.old) (K.faults out.new) (text_of NoMemory) (status_of NoMemory) result }
 {
-    give(b"no memory\n", Answer::NoMemory.status(), out)
+    give(b"no memory\n", Refusal::NoMemory.status(), out)
 }

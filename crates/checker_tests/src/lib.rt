@@ -1,0 +1,13 @@
+//! Tests of the checker, from the text of a deck to the answer.
+#![tactic(auto)]
+
+#[cfg(test)]
+mod case_tests;
+#[cfg(test)]
+mod certificate_tests;
+#[cfg(test)]
+mod command_tests;
+#[cfg(test)]
+mod deck_tests;
+#[cfg(test)]
+mod layer_tests;
