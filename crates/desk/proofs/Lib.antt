@@ -1,0 +1,5 @@
+pub mod OutcomeLaws
+pub mod SearchLaws
+pub mod DrawLaws
+pub mod SettleLaws
+pub mod FormLaws

@@ -1,0 +1,13 @@
+//! The shared state of a run: which piece is drawn next, what a settled piece changes, when a
+//! verdict is reached, and how the run ends.
+#![tactic(auto)]
+
+mod answer;
+mod desk;
+mod desk_part;
+mod look;
+mod settle;
+
+pub use answer::Draw;
+pub use desk::Desk;
+pub use desk_part::DeskPart;
