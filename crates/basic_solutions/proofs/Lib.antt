@@ -3,3 +3,9 @@ pub mod Machine
 pub mod PlaceSteps
 pub mod WeightSteps
 pub mod BlameSteps
+pub mod Coprimes
+pub mod ReadingSteps
+pub mod CommonLaws
+pub mod Fractions
+pub mod WideLists
+pub mod Solved

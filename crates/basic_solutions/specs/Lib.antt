@@ -1,3 +1,5 @@
 pub mod Tables
 pub mod Writes
 pub mod Solutions
+pub mod Commons
+pub mod Readings

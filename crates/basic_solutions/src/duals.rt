@@ -16,7 +16,7 @@ use lpcc_case::Case;
 use std::alloc::{AllocError, Global};
 
 #[inline(always)]
-fn turned(z: i64, sign: bool) -> i64
+pub fn turned(z: i64, sign: bool) -> i64
     requires { IsNarrow z }
     ensures value { result ≡ turn sign z }
     ensures narrow { IsNarrow result }

@@ -3,11 +3,13 @@
 #![tactic(auto)]
 
 mod blame;
+mod common;
 mod duals;
 mod forms;
 mod places;
 mod point;
 mod ray;
+mod reading;
 
 pub use blame::blamed_of;
 pub use duals::multipliers;

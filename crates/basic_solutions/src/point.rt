@@ -8,8 +8,11 @@ ghost use Rattle.walks.specs.Duals.{IsPlaced};
 ghost use Rattle.walks.specs.Steps.{IsSized};
 ghost use Rattle.basic_solutions.specs.Solutions.{IsBasicPoint, IsWidePoint, number_in};
 
+use crate::common::over_common_denominator;
+use crate::reading::readings;
 use dict::Dict;
-use lpcc_case::{Case, Point};
+use lp_base::Sequence;
+use lpcc_case::{Case, Point, cost_of};
 use std::alloc::{AllocError, Global};
 
 /// The point at which all nonbasic forms are 0, in lowest terms. None where these have a number that
@@ -23,5 +26,16 @@ pub fn point_of(alloc: Global, case: &Case, dict: &Dict) -> Result<Option<Point>
     ensures none { IfOk result (λ found. IfNone found ((x : ℕ → ℤ) (one : ℤ) → pos 0 <ℤ one → IsBasicPoint dict.now x one → IsWidePoint case.now.columns x one)) }
     ensures wide { IfOk result (λ found. IfNone found ((rows : List Equation) → IsDictionaryAt case.now (with_rows rows dict.now) → IsWideDictionary (with_rows rows dict.now))) }
 {
-    Err(AllocError)
+    let values = readings(alloc, case, dict, None)?;
+    match over_common_denominator(alloc, &values)? {
+        Some((d, x)) => {
+            let z = cost_of(case, &x);
+            Ok(Some(Point {
+                d,
+                x: Sequence::of_vec(x),
+                z,
+            }))
+        },
+        None => Ok(None),
+    }
 }

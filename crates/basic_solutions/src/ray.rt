@@ -8,7 +8,10 @@ ghost use Rattle.walks.specs.Duals.{IsPlaced};
 ghost use Rattle.walks.specs.Steps.{IsSized};
 ghost use Rattle.basic_solutions.specs.Solutions.{IsDirection, IsWide, number_in};
 
+use crate::common::along_fractions;
+use crate::reading::readings;
 use dict::Dict;
+use lp_base::Sequence;
 use lpcc_case::{Case, Ray};
 use std::alloc::{AllocError, Global};
 
@@ -31,5 +34,12 @@ pub fn ray_of(
     ensures none { IfOk result (λ found. IfNone found ((x : ℕ → ℤ) → IsDirection dict.now down col x → IsWide case.now.columns x)) }
     ensures wide { IfOk result (λ found. IfNone found ((rows : List Equation) → IsDictionaryAt case.now (with_rows rows dict.now) → IsWideDictionary (with_rows rows dict.now))) }
 {
-    Err(AllocError)
+    let _constraints = case.constraints();
+    let values = readings(alloc, case, dict, Some((col, down)))?;
+    match along_fractions(alloc, &values)? {
+        Some(numbers) => Ok(Some(Ray {
+            r: Sequence::of_vec(numbers),
+        })),
+        None => Ok(None),
+    }
 }
