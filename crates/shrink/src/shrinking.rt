@@ -1,14 +1,26 @@
 //! Shrinking of cuts.
-ghost use Rattle.std.specs.Prelude.{IfOk};
+ghost use Rattle.std.specs.Prelude.{◌≡◌, IfOk};
 ghost use Rattle.std.specs.Option.{option_copied};
-ghost use Rattle.cuts.specs.Cuts.{Passes};
+ghost use Rattle.cuts.specs.Cuts.{Passes, no_good_of};
 ghost use Rattle.reasons.specs.Reasons.{IsActiveAgainst, IsLimit};
 ghost use Rattle.shrink.specs.Shrinking.{IsShrunk};
 
+use crate::found::{carried, kept_of, no_reasons};
+use crate::trying::try_all;
 use crate::{KnownPoints, Shrunk};
 use cuts::Cut;
 use lpcc_case::{Case, Point};
+use nogoods::NoGood;
 use std::alloc::{AllocError, Global};
+
+/// The no-good of a cut.
+fn no_good(cut: &Cut) -> &NoGood
+    ensures { result.now ≡ no_good_of cut.now }
+{
+    match cut {
+        Cut::Ray { ng, .. } | Cut::Point { ng, .. } => ng,
+    }
+}
 
 /// Drops choices of a cut for as long as the program of the others is infeasible, or bounded by the
 /// limit: its cut then takes the place of the old one. Each time the first choice is tried that has
@@ -55,5 +67,18 @@ pub fn shrink_with(
     requires active { IsActiveAgainst cut (option_copied limit) }
     ensures { IfOk result (IsShrunk case.now pivots (option_copied limit.entry) cut) }
 {
-    Err(AllocError)
+    if let Some(limit) = limit {
+        known.keep_lower(limit);
+    }
+    let mut cut = cut;
+    let mut found = no_reasons(alloc, no_good(&cut))?;
+    loop {
+        let ng = no_good(&cut);
+        let Some(smaller) = try_all(alloc, case, ng, limit, pivots, &mut found, known)? else {
+            let kept = kept_of(alloc, ng, found)?;
+            return Ok(Shrunk { cut, kept });
+        };
+        found = carried(alloc, ng, found, no_good(&smaller))?;
+        cut = smaller;
+    }
 }
