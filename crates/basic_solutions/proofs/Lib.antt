@@ -9,3 +9,4 @@ pub mod CommonLaws
 pub mod Fractions
 pub mod WideLists
 pub mod Solved
+pub mod Receding

@@ -3,3 +3,4 @@ pub mod Writes
 pub mod Solutions
 pub mod Commons
 pub mod Readings
+pub mod RowCuts
