@@ -5,7 +5,7 @@ use Rattle.std.specs.List.{AllByRecursion}
 use Rattle.std.proofs.lemmas.Bool.{false≢true, eq-eqb, lt-ltb, and_from, or_left, or_right}
 use Rattle.std.proofs.lemmas.List.{append-nil, length-append, take_all, drop_more, drop_all, get_or_at}
 use Rattle.std.proofs.lemmas.List.Elements.{All-more, All-weaker, All-from_recursion}
-use Rattle.std.proofs.lemmas.Option.{slice_get_within, slice_get-get_or}
+use Rattle.std.proofs.lemmas.Option.{slice_get-get_or}
 use Rattle.nogoods.specs.declared.choice.Choice.{Choice}
 use Rattle.nogoods.specs.declared.choice.Side.{Side}
 use Rattle.nogoods.specs.declared.choice.Side.TheVariants.{A, B}
@@ -13,6 +13,7 @@ use Rattle.nogoods.specs.Choices.{pairs_ascend, same_side, same_choice}
 use Rattle.nogoods.specs.Pieces.{IsChoiceOf, Bars}
 use Rattle.derivation.specs.HintRuns.{is_assumed}
 use Rattle.search.specs.Chosen.{IsMarked, StaysMarked, chosen, with_choice}
+use Rattle.search.specs.Walks.{Assumes}
 
 -- ---- marks
 
@@ -117,24 +118,31 @@ chosen_has i zero (false ∷ marks) (s ∷ sides) t marked is = absurd (false≢
 chosen_has i (suc j) (true ∷ marks) (s ∷ sides) t marked is = found_on (record { pair = i; side = s }) (chosen (i + 1) marks sides) (i + 1 + j) (i + suc j) t (omega arith) (chosen_has (i + 1) j marks sides t marked is)
 chosen_has i (suc j) (false ∷ marks) (s ∷ sides) t marked is = found_past (chosen (i + 1) marks sides) (i + 1 + j) (i + suc j) t (omega arith) (chosen_has (i + 1) j marks sides t marked is)
 
-pub chosen_covers : (marks : List Bool) (sides : List Side) (cs : List Choice) → length marks ≡ length sides → All (IsMarked marks) cs → All (λ c. slice_get sides c.pair ≡ Some c.side → is_assumed (chosen 0 marks sides) c ≡ true) cs
-chosen_covers marks sides cs same all k d inside is =
-    let c : Choice = get_or cs k d in
-    let small : c.pair < length marks = omega (arith, slice_get_within sides c.pair c.side is) in
-    found_past (chosen 0 marks sides) (0 + c.pair) c.pair c.side (omega arith) (chosen_has 0 c.pair marks sides c.side (all k d inside small) is)
+pub chosen_assumes : (marks : List Bool) (w : List Side) → Assumes (chosen 0 marks w) marks w
+chosen_assumes marks w p s marked is = found_past (chosen 0 marks w) (0 + p) p s (omega arith) (chosen_has 0 p marks w s marked is)
 
--- by the list that the code made
+pub chosen_ascends : (marks : List Bool) (w : List Side) (made : List Choice) → made ≡ chosen 0 marks w → pairs_ascend made ≡ true
+chosen_ascends marks w made is = ap (λ l. pairs_ascend l) is ∙ chosen_rises 0 marks w
 
-pub joined_rises : (ns : List Bool) (sides : List Side) (made : List Choice) → made ≡ chosen 0 ns sides → pairs_ascend made ≡ true
-joined_rises ns sides made is = ap (λ l. pairs_ascend l) is ∙ chosen_rises 0 ns sides
+-- the last choice of a longer list
+plus_none : (i : ℕ) → i ≡ i + 0
+plus_none i = omega arith
 
-pub joined_held : (ns : List Bool) (sides : List Side) (made : List Choice) → made ≡ chosen 0 ns sides → Bars made sides
-joined_held ns sides made is =
-    let P : List Choice → Type 0 = λ l. Bars l sides in
-    subst P (sym is) (chosen_held ns sides)
+none_plus : (n : ℕ) → 0 + n ≡ n
+none_plus n = omega arith
 
-pub joined_covers : (ms ns : List Bool) (sides : List Side) (cs made : List Choice) → ns ≡ ms → length ms ≡ length sides → All (IsMarked ms) cs → made ≡ chosen 0 ns sides → All (λ c. slice_get sides c.pair ≡ Some c.side → is_assumed made c ≡ true) cs
-joined_covers ms ns sides cs made same size all is =
-    let P : List Choice → Type 0 = λ l. All (λ c. slice_get sides c.pair ≡ Some c.side → is_assumed l c ≡ true) cs in
-    let Q : List Bool → Type 0 = λ l. All (IsMarked l) cs in
-    subst P (sym is) (chosen_covers ns sides cs (ap (λ l. length l) same ∙ size) (subst Q (sym same) all))
+plus_one : (i n : ℕ) → i + 1 + n ≡ i + suc n
+plus_one i n = omega arith
+
+chosen_last : (i : ℕ) (marks : List Bool) (w : List Side) (s : Side) → length marks ≡ length w → chosen i (marks ++ true ∷ []) (w ++ s ∷ []) ≡ chosen i marks w ++ (record { pair = i + length w; side = s }) ∷ []
+chosen_last i [] [] s same = ap (λ k. (record { pair = k; side = s }) ∷ []) (plus_none i)
+chosen_last i [] (t ∷ w) s same = absurd (omega (arith, same))
+chosen_last i (m ∷ marks) [] s same = absurd (omega (arith, same))
+chosen_last i (true ∷ marks) (t ∷ w) s same =
+    ap (λ l. (record { pair = i; side = t }) ∷ l) (chosen_last (i + 1) marks w s (omega (arith, same)) ∙ ap (λ k. chosen (i + 1) marks w ++ (record { pair = k; side = s }) ∷ []) (plus_one i (length w)))
+chosen_last i (false ∷ marks) (t ∷ w) s same =
+    chosen_last (i + 1) marks w s (omega (arith, same)) ∙ ap (λ k. chosen (i + 1) marks w ++ (record { pair = k; side = s }) ∷ []) (plus_one i (length w))
+
+pub chosen_next_last : (marks : List Bool) (w : List Side) (s : Side) → length marks ≡ length w → chosen 0 (marks ++ true ∷ []) (w ++ s ∷ []) ≡ chosen 0 marks w ++ (record { pair = length w; side = s }) ∷ []
+chosen_next_last marks w s same =
+    chosen_last 0 marks w s same ∙ ap (λ k. chosen 0 marks w ++ (record { pair = k; side = s }) ∷ []) (none_plus (length w))

@@ -1,5 +1,6 @@
 -- Each step of the walk.
-use Rattle.std.proofs.Common.{ℕ, ◌+◌, ◌<◌, ◌≤◌, ◌≡◌, refl, sym, ap, ◌∙◌, subst, arith, Bool, IsTrue, List, [], ◌∷◌, ◌++◌, length, get_or, take, Some}
+use Rattle.std.proofs.Common.{ℕ, ◌+◌, ◌<◌, ◌≤◌, ◌≡◌, refl, sym, ap, ◌∙◌, subst, arith, Bool, true, false, IsTrue, List, [], ◌∷◌, ◌++◌, length, get_or, take, Some}
+use Rattle.std.specs.Prelude.{All}
 use Rattle.std.specs.List.{AllByRecursion}
 use Rattle.std.proofs.lemmas.List.{get_or_read, length-append, length-take-le, get_or_append_left, get_or-take, get_or_at, take_more, take_all}
 use Rattle.std.proofs.lemmas.List.Elements.{All-from_recursion}
@@ -10,13 +11,17 @@ use Rattle.nogoods.specs.declared.choice.Side.{Side}
 use Rattle.nogoods.specs.declared.choice.Side.TheVariants.{A, B}
 use Rattle.nogoods.specs.Choices.{pair_of, pairs_ascend}
 use Rattle.nogoods.specs.Pieces.{IsChoiceOf, Bars}
+use Rattle.derivation.specs.HintRuns.{NamesBelow}
 use Rattle.search.specs.declared.walk.Reason.{Reason}
 use Rattle.search.specs.declared.walk.Reason.TheVariants.{By, BlockedPieces}
+use Rattle.search.specs.declared.walk.Resolvent.{Resolvent}
 use Rattle.search.specs.declared.walk.Phase.{Phase}
-use Rattle.search.specs.declared.walk.Phase.TheVariants.{Open, Turn, Exhausted}
+use Rattle.search.specs.declared.walk.Phase.TheVariants.{Open, Turn, Exhausted, Resolved}
 use Rattle.search.specs.Growth.{Adds}
-use Rattle.search.specs.Walks.{Witnessed, AllExhausted, IsExhausted, BarsNext, EndsIn, ExhaustsA, Exhausts, IsWalk, GoesOn, moments_left}
-use Rattle.search.proofs.Moments.{open_to_a, open_to_turn, turn_to_b, turn_to_exhausted, exhausted_to_turn, exhausted_to_exhausted}
+use Rattle.search.specs.Chosen.{chosen}
+use Rattle.search.specs.Walks.{Closes, IsResolvent, Witnessed, AllExhausted, IsExhausted, BarsNext, EndsIn, ExhaustsA, IsWalk, GoesOn, moments_left}
+use Rattle.search.proofs.Moments.{open_to_a, open_to_turn, turn_to_b, turn_to_closed, exhausted_to_turn, exhausted_to_closed, resolved_to_closed, resolved_to_turn, resolved_to_resolved}
+use Rattle.search.proofs.Resolving.{less_resolvent, resolvent_bars_a, resolvent_exhausts}
 use Rattle.search.proofs.WalkLaws.{next_bars, exhausted_by, exhausted_both, turn_exhausted, walk_push, walk_take, walk_onwards, b_exhausts}
 
 goes_at : (fresh : Bool) (n : ℕ) (ngs : List (List Choice)) (blocked : List (List Side)) (w x : List Side) (reasons xs : List Reason) (next : Phase) (before : ℕ) → x ≡ w → xs ≡ reasons → GoesOn fresh n ngs blocked w reasons next before → GoesOn fresh n ngs blocked x xs next before
@@ -38,14 +43,25 @@ pub turn_chooses : (fresh : Bool) (n : ℕ) (ngs : List (List Choice)) (blocked 
 turn_chooses fresh n ngs blocked w x reasons xs reason h short exhausted e f =
     goes_at fresh n ngs blocked (w ++ B ∷ []) x (reasons ++ reason ∷ []) xs Open (moments_left n w (Turn reason)) e f record { kept = walk_push fresh n ngs blocked w reasons B reason h short exhausted; here = tt; less = turn_to_b w n reason short }
 
-pub turn_exhausts : (fresh : Bool) (n : ℕ) (ngs more : List (List Choice)) (blocked : List (List Side)) (w u : List Side) (reasons : List Reason) (reason other : Reason) → Adds n ngs more → IsWalk fresh n ngs blocked w reasons → u ≡ w → Exhausts fresh n more blocked u other → GoesOn fresh n more blocked w reasons (Exhausted other) (moments_left n w (Turn reason))
-turn_exhausts fresh n ngs more blocked w u reasons reason other adds h e exhausted =
-    let P : List Side → Type 0 = λ l. Exhausts fresh n more blocked l other in
-    record { kept = walk_onwards fresh n ngs more blocked w reasons adds h; here = subst P e exhausted; less = turn_to_exhausted w n reason other }
+pub turn_closes : (fresh : Bool) (n : ℕ) (ngs : List (List Choice)) (blocked : List (List Side)) (w u : List Side) (reasons : List Reason) (reason : Reason) (next : Phase) → IsWalk fresh n ngs blocked w reasons → u ≡ w → Closes fresh n ngs blocked u next → GoesOn fresh n ngs blocked w reasons next (moments_left n w (Turn reason))
+turn_closes fresh n ngs blocked w u reasons reason next h e closes =
+    let P : List Side → Type 0 = λ l. Closes fresh n ngs blocked l next in
+    let here : P w = subst P e closes in
+    record { kept = h; here = here.0; less = turn_to_closed w n reason next here.1 }
 
-pub blocked_closes : (fresh : Bool) (n : ℕ) (ngs : List (List Choice)) (blocked : List (List Side)) (w : List Side) (k : ℕ) → length w < n → ExhaustsA fresh n ngs blocked w BlockedPieces → (k < length ngs) × BarsNext w B (get_or ngs k []) → Exhausts fresh n ngs blocked w BlockedPieces
+exhausted_closes : (fresh : Bool) (n : ℕ) (ngs : List (List Choice)) (blocked : List (List Side)) (w : List Side) → IsExhausted n ngs blocked w → Witnessed fresh n ngs blocked → Closes fresh n ngs blocked w (Exhausted BlockedPieces)
+exhausted_closes fresh n ngs blocked w exhausted witness = ((exhausted, witness), omega arith)
+
+pub blocked_closes : (fresh : Bool) (n : ℕ) (ngs : List (List Choice)) (blocked : List (List Side)) (w : List Side) (k : ℕ) → length w < n → ExhaustsA fresh n ngs blocked w BlockedPieces → (k < length ngs) × BarsNext w B (get_or ngs k []) → Closes fresh n ngs blocked w (Exhausted BlockedPieces)
 blocked_closes fresh n ngs blocked w k short first second =
-    (exhausted_both n ngs blocked w short first.0 (exhausted_by n ngs blocked (w ++ B ∷ []) k second.0 (next_bars w B (get_or ngs k []) second.1)), first.1)
+    exhausted_closes fresh n ngs blocked w (exhausted_both n ngs blocked w short first.0 (exhausted_by n ngs blocked (w ++ B ∷ []) k second.0 (next_bars w B (get_or ngs k []) second.1))) first.1
+
+pub blocked_resolves : (fresh : Bool) (n : ℕ) (ngs : List (List Choice)) (blocked : List (List Side)) (w : List Side) (marks : List Bool) (hints : List ℕ) → length w < n → All (NamesBelow n) ngs → ExhaustsA fresh n ngs blocked w BlockedPieces → IsResolvent ngs (w ++ B ∷ []) marks hints → Closes fresh n ngs blocked w (Exhausted BlockedPieces)
+blocked_resolves fresh n ngs blocked w marks hints short named first r =
+    exhausted_closes fresh n ngs blocked w (exhausted_both n ngs blocked w short first.0 (resolvent_exhausts n ngs blocked (w ++ B ∷ []) marks hints named r)) first.1
+
+pub resolvent_ends : (fresh : Bool) (n : ℕ) (ngs : List (List Choice)) (blocked : List (List Side)) (w : List Side) (r : Resolvent) → IsResolvent ngs w r.marks.items r.hints.items → Closes fresh n ngs blocked w (Resolved r)
+resolvent_ends fresh n ngs blocked w r is = (is, omega arith)
 
 -- ---- back to the last choice of a step
 
@@ -108,14 +124,15 @@ back_at_b fresh n ngs blocked w x reasons k c h within bars e side ex =
     let Q : List Side → Type 0 = λ l. (length l < n) × ExhaustsA fresh n ngs blocked l (get_or reasons c.pair BlockedPieces) × BarsNext l B (get_or ngs k []) in
     subst Q (sym ex) (omega (arith, at.0, h.fits), b_exhausts fresh n ngs blocked w reasons c.pair h at.0 (at.1 ∙ side), subst P side at.2)
 
-pub back_exhausts : (fresh : Bool) (n : ℕ) (ngs more : List (List Choice)) (blocked : List (List Side)) (w x u : List Side) (reasons xs : List Reason) (k : ℕ) (c : Choice) (other : Reason) → Adds n ngs more → IsWalk fresh n ngs blocked w reasons → Bars (get_or ngs k []) w → EndsIn c (get_or ngs k []) → c.side ≡ B → x ≡ take c.pair w → xs ≡ take c.pair reasons → u ≡ x → Exhausts fresh n more blocked u other → GoesOn fresh n more blocked x xs (Exhausted other) (moments_left n w (Exhausted (By k)))
-back_exhausts fresh n ngs more blocked w x u reasons xs k c other adds h bars e side ex exs eu exhausted =
+pub back_closes : (fresh : Bool) (n : ℕ) (ngs : List (List Choice)) (blocked : List (List Side)) (w x u : List Side) (reasons xs : List Reason) (k : ℕ) (c : Choice) (next : Phase) → IsWalk fresh n ngs blocked w reasons → Bars (get_or ngs k []) w → EndsIn c (get_or ngs k []) → c.side ≡ B → x ≡ take c.pair w → xs ≡ take c.pair reasons → u ≡ x → Closes fresh n ngs blocked u next → GoesOn fresh n ngs blocked x xs next (moments_left n w (Exhausted (By k)))
+back_closes fresh n ngs blocked w x u reasons xs k c next h bars e side ex exs eu closes =
     let at = last_is w c (get_or ngs k []) e bars in
-    let P : List Side → Type 0 = λ l. Exhausts fresh n more blocked l other in
-    goes_at fresh n more blocked (take c.pair w) x (take c.pair reasons) xs (Exhausted other) (moments_left n w (Exhausted (By k))) ex exs record {
-      kept = walk_onwards fresh n ngs more blocked (take c.pair w) (take c.pair reasons) adds (walk_take fresh n ngs blocked w reasons c.pair h (omega (arith, at.0)));
-      here = subst P (eu ∙ ex) exhausted;
-      less = exhausted_to_exhausted w n c.pair (By k) other at.0 h.fits (at.1 ∙ side);
+    let P : List Side → Type 0 = λ l. Closes fresh n ngs blocked l next in
+    let here : P (take c.pair w) = subst P (eu ∙ ex) closes in
+    goes_at fresh n ngs blocked (take c.pair w) x (take c.pair reasons) xs next (moments_left n w (Exhausted (By k))) ex exs record {
+      kept = walk_take fresh n ngs blocked w reasons c.pair h (omega (arith, at.0));
+      here = here.0;
+      less = exhausted_to_closed w n c.pair (By k) next at.0 h.fits (at.1 ∙ side) here.1;
     }
 
 -- ---- back by one pair
@@ -142,12 +159,73 @@ blocked_exhausts fresh n ngs blocked w x reasons xs q h exhausted witness e side
     goes_at fresh n ngs blocked (take q w) x (take q reasons) xs (Exhausted BlockedPieces) (moments_left n w (Exhausted BlockedPieces)) ex exs record {
       kept = walk_take fresh n ngs blocked w reasons q h (omega arith);
       here = (both, witness);
-      less = exhausted_to_exhausted w n q BlockedPieces BlockedPieces (omega arith) h.fits side;
+      less = exhausted_to_closed w n q BlockedPieces (Exhausted BlockedPieces) (omega arith) h.fits side (omega arith);
     }
 
 pub blocked_ends : (n : ℕ) (ngs : List (List Choice)) (blocked : List (List Side)) (w : List Side) → length w ≡ 0 → IsExhausted n ngs blocked w → AllExhausted n ngs blocked
 blocked_ends n ngs blocked [] e exhausted = λ p size. exhausted p size
 blocked_ends n ngs blocked (s ∷ w) e exhausted = absurd (omega arith)
+
+-- ---- back by one pair, where a resolvent bars the sides
+
+cut_mark : (marks : List Bool) (q : ℕ) (m : Bool) → q + 1 ≡ length marks → get_or marks q false ≡ m → marks ≡ take q marks ++ m ∷ []
+cut_mark marks q m e is = sym (take_all (q + 1) marks (omega arith)) ∙ take_more marks q false (omega arith) ∙ ap (λ x. take q marks ++ x ∷ []) is
+
+-- the resolvent at the sides cut before their last
+resolvent_cut : (ngs : List (List Choice)) (w : List Side) (marks : List Bool) (hints : List ℕ) (q : ℕ) (s : Side) (m : Bool) → IsResolvent ngs w marks hints → q + 1 ≡ length w → get_or w q A ≡ s → get_or marks q false ≡ m → IsResolvent ngs (take q w ++ s ∷ []) (take q marks ++ m ∷ []) hints
+resolvent_cut ngs w marks hints q s m r e side mark =
+    let P : List Side → Type 0 = λ l. IsResolvent ngs l marks hints in
+    let Q : List Bool → Type 0 = λ l. IsResolvent ngs (take q w ++ s ∷ []) l hints in
+    subst Q (cut_mark marks q m (e ∙ sym r.size) mark) (subst P (cut_last w q s e side) r)
+
+pub past_goes : (fresh : Bool) (n : ℕ) (ngs : List (List Choice)) (blocked : List (List Side)) (w x : List Side) (reasons xs : List Reason) (q : ℕ) (r next : Resolvent) → IsWalk fresh n ngs blocked w reasons → q + 1 ≡ length w → IsResolvent ngs w r.marks.items r.hints.items → get_or r.marks.items q false ≡ false → x ≡ take q w → xs ≡ take q reasons → next.marks.items ≡ take q r.marks.items → next.hints.items ≡ r.hints.items → GoesOn fresh n ngs blocked x xs (Resolved next) (moments_left n w (Resolved r))
+past_goes fresh n ngs blocked w x reasons xs q r next h e is unmarked ex exs em eh =
+    let P : List Bool → Type 0 = λ l. IsResolvent ngs (take q w) l r.hints.items in
+    let Q : List ℕ → Type 0 = λ l. IsResolvent ngs (take q w) next.marks.items l in
+    let cut = less_resolvent ngs (take q w) (get_or w q A) (take q r.marks.items) r.hints.items (resolvent_cut ngs w r.marks.items r.hints.items q (get_or w q A) false is e refl unmarked) in
+    goes_at fresh n ngs blocked (take q w) x (take q reasons) xs (Resolved next) (moments_left n w (Resolved r)) ex exs record {
+      kept = walk_take fresh n ngs blocked w reasons q h (omega arith);
+      here = subst Q (sym eh) (subst P (sym em) cut);
+      less = resolved_to_resolved w n q r next (omega arith) h.fits;
+    }
+
+pub learned_turns : (fresh : Bool) (n : ℕ) (ngs more : List (List Choice)) (blocked : List (List Side)) (w x u : List Side) (reasons xs : List Reason) (q k : ℕ) (r : Resolvent) → Adds n ngs more → IsWalk fresh n ngs blocked w reasons → q + 1 ≡ length w → IsResolvent ngs w r.marks.items r.hints.items → get_or r.marks.items q false ≡ true → get_or w q A ≡ A → x ≡ take q w → xs ≡ take q reasons → u ≡ w → (k < length more) × (get_or more k [] ≡ chosen 0 r.marks.items u) → GoesOn fresh n more blocked x xs (Turn (By k)) (moments_left n w (Resolved r))
+learned_turns fresh n ngs more blocked w x u reasons xs q k r adds h e is marked side ex exs eu made =
+    let cut = resolvent_cut ngs w r.marks.items r.hints.items q A true is e side marked in
+    let P : List Choice → Type 0 = λ l. BarsNext (take q w) A l in
+    let same : chosen 0 (take q r.marks.items ++ true ∷ []) (take q w ++ A ∷ []) ≡ get_or more k [] =
+    ap (λ m. chosen 0 m (take q w ++ A ∷ [])) (sym (cut_mark r.marks.items q true (e ∙ sym is.size) marked)) ∙ ap (λ l. chosen 0 r.marks.items l) (sym (cut_last w q A e side)) ∙ ap (λ l. chosen 0 r.marks.items l) (sym eu) ∙ sym made.1 in
+    let size : length (take q w) ≡ q = length-take-le q w (omega arith) in
+    goes_at fresh n more blocked (take q w) x (take q reasons) xs (Turn (By k)) (moments_left n w (Resolved r)) ex exs record {
+      kept = walk_onwards fresh n ngs more blocked (take q w) (take q reasons) adds (walk_take fresh n ngs blocked w reasons q h (omega arith));
+      here = (omega (arith, h.fits), (made.0, subst P same (resolvent_bars_a ngs (take q w) (take q r.marks.items) r.hints.items cut)));
+      less = resolved_to_turn w n q r (By k) (omega arith) h.fits side;
+    }
+
+-- what is known where the last choice of the resolvent is a B
+pub over_first : (fresh : Bool) (n : ℕ) (ngs : List (List Choice)) (blocked : List (List Side)) (w x : List Side) (reasons : List Reason) (q : ℕ) (reason : Reason) → IsWalk fresh n ngs blocked w reasons → q + 1 ≡ length w → get_or w q A ≡ B → x ≡ take q w → reason ≡ get_or reasons q reason → (length x < n) × ExhaustsA fresh n ngs blocked x reason
+over_first fresh n ngs blocked w x reasons q reason h e side ex is =
+    let size : length (take q w) ≡ q = length-take-le q w (omega arith) in
+    let P : Reason → Type 0 = λ y. ExhaustsA fresh n ngs blocked (take q w) y in
+    let Q : List Side → Type 0 = λ l. (length l < n) × ExhaustsA fresh n ngs blocked l reason in
+    subst Q (sym ex) (omega (arith, h.fits), subst P (sym (get_or_read reasons q reason (omega (arith, h.sizes)) is BlockedPieces)) (b_exhausts fresh n ngs blocked w reasons q h (omega arith) side))
+
+pub over_second : (ngs : List (List Choice)) (w x : List Side) (q : ℕ) (marks ms : List Bool) (hints hs : List ℕ) → q + 1 ≡ length w → IsResolvent ngs w marks hints → get_or marks q false ≡ true → get_or w q A ≡ B → x ≡ take q w → ms ≡ take q marks → hs ≡ hints → IsResolvent ngs (x ++ B ∷ []) (ms ++ true ∷ []) hs
+over_second ngs w x q marks ms hints hs e is marked side ex em eh =
+    let P : List Side → Type 0 = λ l. IsResolvent ngs (l ++ B ∷ []) (ms ++ true ∷ []) hs in
+    let Q : List Bool → Type 0 = λ l. IsResolvent ngs (take q w ++ B ∷ []) (l ++ true ∷ []) hs in
+    let R : List ℕ → Type 0 = λ l. IsResolvent ngs (take q w ++ B ∷ []) (take q marks ++ true ∷ []) l in
+    subst P (sym ex) (subst Q (sym em) (subst R (sym eh) (resolvent_cut ngs w marks hints q B true is e side marked)))
+
+pub over_goes : (fresh : Bool) (n : ℕ) (ngs : List (List Choice)) (blocked : List (List Side)) (w x u : List Side) (reasons xs : List Reason) (q : ℕ) (r : Resolvent) (next : Phase) → IsWalk fresh n ngs blocked w reasons → q + 1 ≡ length w → get_or w q A ≡ B → x ≡ take q w → xs ≡ take q reasons → u ≡ x → Closes fresh n ngs blocked u next → GoesOn fresh n ngs blocked x xs next (moments_left n w (Resolved r))
+over_goes fresh n ngs blocked w x u reasons xs q r next h e side ex exs eu closes =
+    let P : List Side → Type 0 = λ l. Closes fresh n ngs blocked l next in
+    let here : P (take q w) = subst P (eu ∙ ex) closes in
+    goes_at fresh n ngs blocked (take q w) x (take q reasons) xs next (moments_left n w (Resolved r)) ex exs record {
+      kept = walk_take fresh n ngs blocked w reasons q h (omega arith);
+      here = here.0;
+      less = resolved_to_closed w n q r next (omega arith) h.fits side here.1;
+    }
 
 -- ---- as the code reads the sides and the reasons
 

@@ -9,13 +9,14 @@ ghost use Rattle.derivation.specs.Logs.{no_goods};
 ghost use Rattle.search.specs.FirstPieces.{IsFound, HasEmpty, found_or};
 ghost use Rattle.search.specs.Growth.{Grown};
 ghost use Rattle.search.specs.Progress.{LeadsTo};
-ghost use Rattle.search.specs.Walks.{AllExhausted, Witnessed, IsWalk, InPhase, Exhausts, moments_left};
+ghost use Rattle.search.specs.Walks.{AllExhausted, Witnessed, IsResolvent, IsWalk, InPhase, Exhausts, moments_left};
 ghost use Rattle.search.specs.declared.walk.Reason.TheVariants as because;
 ghost use Rattle.search.specs.declared.walk.Phase.TheVariants as phase;
 
 use crate::index::Index;
 use crate::piece_set::PieceSet;
-use crate::walk::{Phase, Reason, Walk, whole};
+use crate::resolve::learn;
+use crate::walk::{Phase, Reason, Resolvent, Walk, whole};
 use derivation::Log;
 use lp_base::Sequence;
 use lpcc_case::MOST_PAIRS;
@@ -88,26 +89,57 @@ fn at_open(
 
 fn at_barred(
     alloc: Global,
-    log: &mut Log,
-    index: &mut Index,
+    log: &Log,
     fresh: bool,
     pairs: u32,
     blocked: &PieceSet,
     walk: &mut Walk,
     step: usize,
 ) -> Result<Progress, AllocError>
-    requires few { pairs ≤ MOST_PAIRS }
-    requires named { All (NamesBelow pairs) (no_goods log.old) }
-    requires kept { IsWalk fresh pairs (no_goods log.old) blocked.now walk.old.sides.items walk.old.reasons.items }
-    requires within { step < length (no_goods log.old) }
-    requires bars { Bars (slice_index_or (no_goods log.old) step []) walk.old.sides.items }
-    ensures grown { Grown pairs log.old log.new }
-    ensures next { IfOk result (LeadsTo fresh pairs (no_goods log.new) blocked.now walk.new.sides.items walk.new.reasons.items (moments_left pairs walk.old.sides.items (phase.Exhausted (because.By step)))) }
+    requires kept { IsWalk fresh pairs (no_goods log.now) blocked.now walk.old.sides.items walk.old.reasons.items }
+    requires within { step < length (no_goods log.now) }
+    requires bars { Bars (slice_index_or (no_goods log.now) step []) walk.old.sides.items }
+    ensures { IfOk result (LeadsTo fresh pairs (no_goods log.now) blocked.now walk.new.sides.items walk.new.reasons.items (moments_left pairs walk.old.sides.items (phase.Exhausted (because.By step)))) }
 {
-    match walk.back_by(alloc, log, index, fresh, pairs, blocked, step)? {
+    match walk.back_by(alloc, log, fresh, pairs, blocked, step)? {
         Some(next) => Ok(Progress::Go(next)),
         None => Ok(Progress::End(Found::Refuted)),
     }
+}
+
+fn at_resolved(
+    alloc: Global,
+    log: &mut Log,
+    index: &mut Index,
+    fresh: bool,
+    pairs: u32,
+    blocked: &PieceSet,
+    walk: &mut Walk,
+    resolvent: Resolvent,
+) -> Result<Progress, AllocError>
+    requires few { pairs ≤ MOST_PAIRS }
+    requires named { All (NamesBelow pairs) (no_goods log.old) }
+    requires kept { IsWalk fresh pairs (no_goods log.old) blocked.now walk.old.sides.items walk.old.reasons.items }
+    requires resolvent { IsResolvent (no_goods log.old) walk.old.sides.items resolvent.marks.items resolvent.hints.items }
+    ensures grown { Grown pairs log.old log.new }
+    ensures next { IfOk result (LeadsTo fresh pairs (no_goods log.new) blocked.now walk.new.sides.items walk.new.reasons.items (moments_left pairs walk.old.sides.items (phase.Resolved resolvent))) }
+{
+    let count = walk.sides.len();
+    if count == 0 {
+        learn(alloc, log, index, pairs, walk.sides.as_slice(), resolvent)?;
+        return Ok(Progress::End(Found::Refuted));
+    }
+    let next = walk.back_resolved(
+        alloc,
+        log,
+        index,
+        fresh,
+        pairs,
+        blocked,
+        count - 1,
+        resolvent,
+    )?;
+    Ok(Progress::Go(next))
 }
 
 fn at_blocked(log: &Log, fresh: bool, pairs: u32, blocked: &PieceSet, walk: &mut Walk) -> Progress
@@ -145,9 +177,12 @@ fn advance(
             Ok(Progress::Go(next))
         }
         Phase::Exhausted(Reason::By(step)) => at_barred(
-            alloc, log, index, fresh, pairs, blocked, walk, step,
+            alloc, log, fresh, pairs, blocked, walk, step,
         ),
         Phase::Exhausted(Reason::BlockedPieces) => Ok(at_blocked(log, fresh, pairs, blocked, walk)),
+        Phase::Resolved(resolvent) => at_resolved(
+            alloc, log, index, fresh, pairs, blocked, walk, resolvent,
+        ),
     }
 }
 

@@ -1,5 +1,5 @@
 //! Tests of no-goods and pieces against a list of sides for the first pairs.
-ghost use Rattle.std.specs.Prelude.{◌≡◌, ◌↔◌, ◌<◌, IsTrue, IfSome, IfNone, [], Some, length, slice_get, slice_index_or};
+ghost use Rattle.std.specs.Prelude.{◌≡◌, ◌↔◌, ◌⊎◌, ◌<◌, IsTrue, IfSome, IfNone, [], Some, length, slice_get, slice_index_or};
 ghost use Rattle.nogoods.specs.Choices.{pairs_ascend};
 ghost use Rattle.nogoods.specs.Pieces.{Bars};
 ghost use Rattle.derivation.specs.Logs.{no_goods};
@@ -47,23 +47,46 @@ pub(crate) fn choices_of(log: &Log, at: usize) -> &[Choice]
     }
 }
 
-/// A step that bars this side behind the sides, as the index has it.
+/// The pair of the last choice but one, counted from 1.
+fn pair_before_last(choices: &[Choice]) -> u64 {
+    match choices {
+        [.., before, _] => before.pair as u64 + 1,
+        _ => 0,
+    }
+}
+
+/// That of two steps that lets the walk go back further.
+fn better(log: &Log, first: Option<usize>, second: usize) -> usize
+    requires first { IfSome first (λ k. k < length (no_goods log.now)) }
+    requires second { second < length (no_goods log.now) }
+    ensures { (result ≡ second) ⊎ (first ≡ Some result) }
+{
+    match first {
+        Some(first)
+            if pair_before_last(choices_of(log, first))
+                < pair_before_last(choices_of(log, second)) => first,
+        _ => second,
+    }
+}
+
+/// The best of the steps that bar this side behind the sides, as the index has them.
 pub(crate) fn find(log: &Log, index: &Index, sides: &[Side], side: Side) -> Option<usize>
     ensures { IfSome result (λ k. (k < length (no_goods log.now)) × BarsNext sides.now side (slice_index_or (no_goods log.now) k [])) }
 {
     let count = log.steps().len();
+    let mut found = None;
     let mut at = index.newest(sides.len(), side);
     while at < count {
         if bars_next(choices_of(log, at), sides, side) {
-            return Some(at);
+            found = Some(better(log, found, at));
         }
         let older = index.older(at);
         if older >= at {
-            return None;
+            return found;
         }
         at = older;
     }
-    None
+    found
 }
 
 /// A step that bars the piece.

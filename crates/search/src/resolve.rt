@@ -1,4 +1,4 @@
-//! Steps that follow from two others.
+//! Resolvents, and steps that are learned.
 ghost use Rattle.std.specs.Prelude.{◌≡◌, ◌<◌, ◌≤◌, ℕ, All, Contains, IsTrue, IfOk, OnErr, OnOk, Some, [], ◌∷◌, ◌++◌, false, true, length, slice_get, slice_index_or};
 ghost use Rattle.nogoods.specs.declared.choice.Choice.{Choice as ChosenSide};
 ghost use Rattle.nogoods.specs.declared.choice.Side.TheVariants as side;
@@ -8,10 +8,11 @@ ghost use Rattle.derivation.specs.HintRuns.{NamesBelow, closes, is_assumed};
 ghost use Rattle.derivation.specs.Logs.{no_goods};
 ghost use Rattle.search.specs.Chosen.{chosen, with_choice, IsMarked, StaysMarked};
 ghost use Rattle.search.specs.Growth.{Grown};
-ghost use Rattle.search.specs.Walks.{BarsNext};
+ghost use Rattle.search.specs.Walks.{BarsNext, IsResolvent};
 
 use crate::index::Index;
 use crate::prefix::choices_of;
+use crate::walk::Resolvent;
 use derivation::Log;
 use lp_base::Sequence;
 use lpcc_case::MOST_PAIRS;
@@ -87,22 +88,55 @@ fn marks_of(
     Ok(marks)
 }
 
-/// The choices of the sides whose pairs either list names.
-fn join(
-    alloc: Global,
-    sides: &[Side],
-    first: &[Choice],
-    second: &[Choice],
-) -> Result<Vec<Choice>, AllocError>
-    requires few { length sides.now ≤ MOST_PAIRS }
-    ensures ascending { IfOk result (λ made. pairs_ascend made.items ≡ true) }
-    ensures held { IfOk result (λ made. Bars made.items sides.now) }
-    ensures first { IfOk result (λ made. All (λ c. slice_get sides.now c.pair ≡ Some c.side → is_assumed made.items c ≡ true) first.now) }
-    ensures second { IfOk result (λ made. All (λ c. slice_get sides.now c.pair ≡ Some c.side → is_assumed made.items c ≡ true) second.now) }
+fn hints_of(alloc: Global, first: usize, second: usize) -> Result<Vec<u64>, AllocError>
+    ensures { IfOk result (λ made. made.items ≡ first ∷ second ∷ []) }
 {
-    let marks = marks_of(alloc, sides.len(), first, second)?;
-    let made = chosen(alloc, marks.as_slice(), sides)?;
+    let mut made = Vec::new(alloc);
+    made.push(first as u64)?;
+    made.push(second as u64)?;
     Ok(made)
+}
+
+/// The resolvent of a step that bars side A behind the sides and one that bars side B.
+pub(crate) fn resolve(
+    alloc: Global,
+    log: &Log,
+    sides: &[Side],
+    first: usize,
+    second: usize,
+) -> Result<Resolvent, AllocError>
+    requires first { (first < length (no_goods log.now)) × BarsNext sides.now side.A (slice_index_or (no_goods log.now) first []) }
+    requires second { (second < length (no_goods log.now)) × BarsNext sides.now side.B (slice_index_or (no_goods log.now) second []) }
+    ensures { IfOk result (λ made. IsResolvent (no_goods log.now) sides.now made.marks.items made.hints.items) }
+{
+    let marks = marks_of(
+        alloc,
+        sides.len(),
+        choices_of(log, first),
+        choices_of(log, second),
+    )?;
+    let hints = hints_of(alloc, first, second)?;
+    Ok(Resolvent { marks, hints })
+}
+
+/// The resolvent of a step that bars side A behind the sides and a resolvent that bars side B.
+pub(crate) fn resolve_more(
+    log: &Log,
+    sides: &[Side],
+    first: usize,
+    resolvent: Resolvent,
+) -> Result<Resolvent, AllocError>
+    requires first { (first < length (no_goods log.now)) × BarsNext sides.now side.A (slice_index_or (no_goods log.now) first []) }
+    requires second { IsResolvent (no_goods log.now) (sides.now ++ side.B ∷ []) (resolvent.marks.items ++ true ∷ []) resolvent.hints.items }
+    ensures { IfOk result (λ made. IsResolvent (no_goods log.now) sides.now made.marks.items made.hints.items) }
+{
+    let Resolvent {
+        mut marks,
+        mut hints,
+    } = resolvent;
+    mark(&mut marks, choices_of(log, first));
+    hints.insert(0, first as u64)?;
+    Ok(Resolvent { marks, hints })
 }
 
 fn no_good(alloc: Global, list: &[Choice]) -> Result<NoGood, AllocError>
@@ -113,15 +147,6 @@ fn no_good(alloc: Global, list: &[Choice]) -> Result<NoGood, AllocError>
         Some(made) => Ok(made),
         None => Err(AllocError),
     }
-}
-
-fn hints_of(alloc: Global, first: usize, second: usize) -> Result<Sequence<u64>, AllocError>
-    ensures { IfOk result (λ made. made ≡ first ∷ second ∷ []) }
-{
-    let mut made = Sequence::new(alloc);
-    made.push(first as u64)?;
-    made.push(second as u64)?;
-    Ok(made)
 }
 
 /// Adds a step that follows.
@@ -135,34 +160,31 @@ fn add(log: &mut Log, pairs: u32, ng: NoGood, hints: Sequence<u64>) -> Result<()
     log.derive(ng, hints)
 }
 
-/// Adds the step that follows from a step that bars side A behind the sides and one that bars
-/// side B. It gives the step's number.
-pub(crate) fn resolve(
+/// Adds the resolvent to the log as a step, and gives its number.
+pub(crate) fn learn(
     alloc: Global,
     log: &mut Log,
     index: &mut Index,
     pairs: u32,
     sides: &[Side],
-    first: usize,
-    second: usize,
+    resolvent: Resolvent,
 ) -> Result<usize, AllocError>
     requires few { pairs ≤ MOST_PAIRS }
-    requires short { length sides.now < pairs }
+    requires fits { length sides.now ≤ pairs }
     requires named { All (NamesBelow pairs) (no_goods log.old) }
-    requires first { (first < length (no_goods log.old)) × BarsNext sides.now side.A (slice_index_or (no_goods log.old) first []) }
-    requires second { (second < length (no_goods log.old)) × BarsNext sides.now side.B (slice_index_or (no_goods log.old) second []) }
+    requires resolvent { IsResolvent (no_goods log.old) sides.now resolvent.marks.items resolvent.hints.items }
     ensures grown { Grown pairs log.old log.new }
-    ensures made { IfOk result (λ k. (k < length (no_goods log.new)) × Bars (slice_index_or (no_goods log.new) k []) sides.now) }
+    ensures made { IfOk result (λ k. (k < length (no_goods log.new)) × (slice_index_or (no_goods log.new) k [] ≡ chosen 0 resolvent.marks.items sides.now)) }
 {
-    let list = join(
-        alloc,
-        sides,
-        choices_of(log, first),
-        choices_of(log, second),
-    )?;
-    let hints = hints_of(alloc, first, second)?;
+    let Resolvent { marks, hints } = resolvent;
+    let list = chosen(alloc, marks.as_slice(), sides)?;
     index.add(list.as_slice())?;
     let at = log.steps().len();
-    add(log, pairs, no_good(alloc, list.as_slice())?, hints)?;
+    add(
+        log,
+        pairs,
+        no_good(alloc, list.as_slice())?,
+        Sequence::of_vec(hints),
+    )?;
     Ok(at)
 }

@@ -1,19 +1,19 @@
 //! The walk over the pieces in their order.
-ghost use Rattle.std.specs.Prelude.{◌≡◌, ◌<◌, ◌≤◌, ◌∷◌, ◌++◌, [], ℕ, List, All, IfOk, IfSome, IfNone, OnOk, OnErr, Contains, length, take, slice_index_or};
+ghost use Rattle.std.specs.Prelude.{◌≡◌, ◌<◌, ◌≤◌, ◌∷◌, ◌++◌, ◌+◌, [], ℕ, List, All, IfOk, IfSome, IfNone, OnOk, OnErr, Contains, true, false, length, take, slice_index_or};
 ghost use Rattle.nogoods.specs.declared.choice.Side.TheVariants as side;
 ghost use Rattle.nogoods.specs.Pieces.{Bars};
 ghost use Rattle.derivation.specs.HintRuns.{NamesBelow};
 ghost use Rattle.derivation.specs.Logs.{no_goods};
 ghost use Rattle.search.specs.FirstPieces.{IsBarred};
 ghost use Rattle.search.specs.Growth.{Grown};
-ghost use Rattle.search.specs.Walks.{AllExhausted, BarsNext, Witnessed, IsWalk, InPhase, IsExhausted, ExhaustsA, Exhausts, GoesOn, moments_left, EndsIn};
+ghost use Rattle.search.specs.Walks.{AllExhausted, BarsNext, Closes, Witnessed, IsResolvent, IsWalk, IsExhausted, ExhaustsA, Exhausts, GoesOn, moments_left, EndsIn};
 ghost use Rattle.search.specs.declared.walk.Reason.TheVariants as because;
 ghost use Rattle.search.specs.declared.walk.Phase.TheVariants as phase;
 
 use crate::index::Index;
 use crate::piece_set::PieceSet;
 use crate::prefix::{barring, choices_of, find};
-use crate::resolve::resolve;
+use crate::resolve::{learn, resolve, resolve_more};
 use derivation::Log;
 use lpcc_case::MOST_PAIRS;
 use nogoods::{Choice, Side};
@@ -26,13 +26,22 @@ pub(crate) enum Reason {
     BlockedPieces,
 }
 
+/// A no-good that follows from steps and bars the sides: the choices of the sides whose pairs are
+/// marked, and the hints of its unit propagation.
+#[derive(Drop)]
+pub(crate) struct Resolvent {
+    pub(crate) marks: Vec<bool>,
+    pub(crate) hints: Vec<u64>,
+}
+
 /// Where the walk is at the sides that it has: before side A of the next pair, between its sides,
-/// with side A exhausted, or behind both.
-#[derive(Clone, Copy)]
+/// with side A exhausted, or behind both, by a step, by blocked pieces or by a resolvent.
+#[derive(Drop)]
 pub(crate) enum Phase {
     Open,
     Turn(Reason),
     Exhausted(Reason),
+    Resolved(Resolvent),
 }
 
 /// The sides of the first pairs, and for each B why A is exhausted there.
@@ -42,31 +51,52 @@ pub(crate) struct Walk {
     pub(crate) reasons: Vec<Reason>,
 }
 
-/// Why sides are exhausted, where a step bars side B behind them and side A is exhausted.
+/// What follows at these sides, where a step bars side B behind them and side A is exhausted.
 fn close(
     alloc: Global,
-    log: &mut Log,
-    index: &mut Index,
+    log: &Log,
     fresh: bool,
     pairs: u32,
     blocked: &PieceSet,
     sides: &[Side],
     first: Reason,
     second: usize,
-) -> Result<Reason, AllocError>
-    requires few { pairs ≤ MOST_PAIRS }
+) -> Result<Phase, AllocError>
     requires short { length sides.now < pairs }
-    requires named { All (NamesBelow pairs) (no_goods log.old) }
-    requires first { ExhaustsA fresh pairs (no_goods log.old) blocked.now sides.now first }
-    requires second { (second < length (no_goods log.old)) × BarsNext sides.now side.B (slice_index_or (no_goods log.old) second []) }
-    ensures grown { Grown pairs log.old log.new }
-    ensures exhausted { IfOk result (λ reason. Exhausts fresh pairs (no_goods log.new) blocked.now sides.now reason) }
+    requires first { ExhaustsA fresh pairs (no_goods log.now) blocked.now sides.now first }
+    requires second { (second < length (no_goods log.now)) × BarsNext sides.now side.B (slice_index_or (no_goods log.now) second []) }
+    ensures { IfOk result (Closes fresh pairs (no_goods log.now) blocked.now sides.now) }
 {
     match first {
-        Reason::BlockedPieces => Ok(Reason::BlockedPieces),
+        Reason::BlockedPieces => Ok(Phase::Exhausted(first)),
         Reason::By(first) => {
-            let made = resolve(alloc, log, index, pairs, sides, first, second)?;
-            Ok(Reason::By(made))
+            let resolvent = resolve(alloc, log, sides, first, second)?;
+            Ok(Phase::Resolved(resolvent))
+        }
+    }
+}
+
+/// What follows at these sides, where a resolvent bars side B behind them and side A is exhausted.
+fn close_resolved(
+    log: &Log,
+    fresh: bool,
+    pairs: u32,
+    blocked: &PieceSet,
+    sides: &[Side],
+    first: Reason,
+    resolvent: Resolvent,
+) -> Result<Phase, AllocError>
+    requires short { length sides.now < pairs }
+    requires named { All (NamesBelow pairs) (no_goods log.now) }
+    requires first { ExhaustsA fresh pairs (no_goods log.now) blocked.now sides.now first }
+    requires second { IsResolvent (no_goods log.now) (sides.now ++ side.B ∷ []) (resolvent.marks.items ++ true ∷ []) resolvent.hints.items }
+    ensures { IfOk result (Closes fresh pairs (no_goods log.now) blocked.now sides.now) }
+{
+    match first {
+        Reason::BlockedPieces => Ok(Phase::Exhausted(Reason::BlockedPieces)),
+        Reason::By(first) => {
+            let resolvent = resolve_more(log, sides, first, resolvent)?;
+            Ok(Phase::Resolved(resolvent))
         }
     }
 }
@@ -176,27 +206,23 @@ impl Walk {
     pub(crate) fn turn(
         &mut self,
         alloc: Global,
-        log: &mut Log,
-        index: &mut Index,
+        log: &Log,
+        index: &Index,
         fresh: bool,
         pairs: u32,
         blocked: &PieceSet,
         reason: Reason,
     ) -> Result<Phase, AllocError>
-        requires few { pairs ≤ MOST_PAIRS }
-        requires named { All (NamesBelow pairs) (no_goods log.old) }
-        requires kept { IsWalk fresh pairs (no_goods log.old) blocked.now self.old.sides.items self.old.reasons.items }
+        requires kept { IsWalk fresh pairs (no_goods log.now) blocked.now self.old.sides.items self.old.reasons.items }
         requires short { length self.old.sides.items < pairs }
-        requires exhausted { ExhaustsA fresh pairs (no_goods log.old) blocked.now self.old.sides.items reason }
-        ensures grown { Grown pairs log.old log.new }
-        ensures next { IfOk result (λ next. GoesOn fresh pairs (no_goods log.new) blocked.now self.new.sides.items self.new.reasons.items next (moments_left pairs self.old.sides.items (phase.Turn reason))) }
+        requires exhausted { ExhaustsA fresh pairs (no_goods log.now) blocked.now self.old.sides.items reason }
+        ensures { IfOk result (λ next. GoesOn fresh pairs (no_goods log.now) blocked.now self.new.sides.items self.new.reasons.items next (moments_left pairs self.old.sides.items (phase.Turn reason))) }
     {
         match find(log, index, self.sides.as_slice(), Side::B) {
             Some(second) => {
-                let made = close(
+                let next = close(
                     alloc,
                     log,
-                    index,
                     fresh,
                     pairs,
                     blocked,
@@ -204,7 +230,7 @@ impl Walk {
                     reason,
                     second,
                 )?;
-                Ok(Phase::Exhausted(made))
+                Ok(next)
             }
             None => {
                 self.push(Side::B, reason)?;
@@ -217,22 +243,18 @@ impl Walk {
     pub(crate) fn back_by(
         &mut self,
         alloc: Global,
-        log: &mut Log,
-        index: &mut Index,
+        log: &Log,
         fresh: bool,
         pairs: u32,
         blocked: &PieceSet,
         step: usize,
     ) -> Result<Option<Phase>, AllocError>
-        requires few { pairs ≤ MOST_PAIRS }
-        requires named { All (NamesBelow pairs) (no_goods log.old) }
-        requires kept { IsWalk fresh pairs (no_goods log.old) blocked.now self.old.sides.items self.old.reasons.items }
-        requires within { step < length (no_goods log.old) }
-        requires bars { Bars (slice_index_or (no_goods log.old) step []) self.old.sides.items }
-        ensures grown { Grown pairs log.old log.new }
-        ensures next { IfOk result (λ found. IfSome found (λ next. GoesOn fresh pairs (no_goods log.new) blocked.now self.new.sides.items self.new.reasons.items next (moments_left pairs self.old.sides.items (phase.Exhausted (because.By step))))) }
-        ensures empty { IfOk result (λ found. IfNone found (slice_index_or (no_goods log.new) step [] ≡ [])) }
-        ensures held { IfOk result (λ found. IfNone found (IsWalk fresh pairs (no_goods log.new) blocked.now self.new.sides.items self.new.reasons.items)) }
+        requires kept { IsWalk fresh pairs (no_goods log.now) blocked.now self.old.sides.items self.old.reasons.items }
+        requires within { step < length (no_goods log.now) }
+        requires bars { Bars (slice_index_or (no_goods log.now) step []) self.old.sides.items }
+        ensures next { IfOk result (λ found. IfSome found (λ next. GoesOn fresh pairs (no_goods log.now) blocked.now self.new.sides.items self.new.reasons.items next (moments_left pairs self.old.sides.items (phase.Exhausted (because.By step))))) }
+        ensures empty { IfOk result (λ found. IfNone found (slice_index_or (no_goods log.now) step [] ≡ [])) }
+        ensures held { IfOk result (λ found. IfNone found (IsWalk fresh pairs (no_goods log.now) blocked.now self.new.sides.items self.new.reasons.items)) }
     {
         let Some(last) = last_of(log, step) else {
             return Ok(None);
@@ -243,10 +265,9 @@ impl Walk {
         match last.side {
             Side::A => Ok(Some(Phase::Turn(Reason::By(step)))),
             Side::B => {
-                let made = close(
+                let next = close(
                     alloc,
                     log,
-                    index,
                     fresh,
                     pairs,
                     blocked,
@@ -254,8 +275,118 @@ impl Walk {
                     first,
                     step,
                 )?;
-                Ok(Some(Phase::Exhausted(made)))
+                Ok(Some(next))
             }
+        }
+    }
+
+    /// Goes back by one pair whose choice the resolvent does not have.
+    fn back_past(
+        &mut self,
+        log: &Log,
+        fresh: bool,
+        pairs: u32,
+        blocked: &PieceSet,
+        at: usize,
+        mut resolvent: Resolvent,
+    ) -> Phase
+        requires last { at + 1 ≡ length self.old.sides.items }
+        requires kept { IsWalk fresh pairs (no_goods log.now) blocked.now self.old.sides.items self.old.reasons.items }
+        requires resolvent { IsResolvent (no_goods log.now) self.old.sides.items resolvent.marks.items resolvent.hints.items }
+        requires unmarked { slice_index_or resolvent.marks.items at false ≡ false }
+        ensures { GoesOn fresh pairs (no_goods log.now) blocked.now self.new.sides.items self.new.reasons.items result (moments_left pairs self.old.sides.items (phase.Resolved resolvent)) }
+    {
+        self.cut(at);
+        resolvent.marks.truncate(at);
+        Phase::Resolved(resolvent)
+    }
+
+    /// Goes back to side A of the last pair, by a step that is learned.
+    fn back_to_a(
+        &mut self,
+        alloc: Global,
+        log: &mut Log,
+        index: &mut Index,
+        fresh: bool,
+        pairs: u32,
+        blocked: &PieceSet,
+        at: usize,
+        resolvent: Resolvent,
+    ) -> Result<Phase, AllocError>
+        requires few { pairs ≤ MOST_PAIRS }
+        requires named { All (NamesBelow pairs) (no_goods log.old) }
+        requires last { at + 1 ≡ length self.old.sides.items }
+        requires kept { IsWalk fresh pairs (no_goods log.old) blocked.now self.old.sides.items self.old.reasons.items }
+        requires resolvent { IsResolvent (no_goods log.old) self.old.sides.items resolvent.marks.items resolvent.hints.items }
+        requires marked { slice_index_or resolvent.marks.items at false ≡ true }
+        requires here { slice_index_or self.old.sides.items at side.A ≡ side.A }
+        ensures grown { Grown pairs log.old log.new }
+        ensures next { IfOk result (λ next. GoesOn fresh pairs (no_goods log.new) blocked.now self.new.sides.items self.new.reasons.items next (moments_left pairs self.old.sides.items (phase.Resolved resolvent))) }
+    {
+        let step = learn(alloc, log, index, pairs, self.sides.as_slice(), resolvent)?;
+        self.cut(at);
+        Ok(Phase::Turn(Reason::By(step)))
+    }
+
+    /// Goes back over side B of the last pair.
+    fn back_over_b(
+        &mut self,
+        log: &Log,
+        fresh: bool,
+        pairs: u32,
+        blocked: &PieceSet,
+        at: usize,
+        mut resolvent: Resolvent,
+    ) -> Result<Phase, AllocError>
+        requires named { All (NamesBelow pairs) (no_goods log.now) }
+        requires last { at + 1 ≡ length self.old.sides.items }
+        requires kept { IsWalk fresh pairs (no_goods log.now) blocked.now self.old.sides.items self.old.reasons.items }
+        requires resolvent { IsResolvent (no_goods log.now) self.old.sides.items resolvent.marks.items resolvent.hints.items }
+        requires marked { slice_index_or resolvent.marks.items at false ≡ true }
+        requires here { slice_index_or self.old.sides.items at side.A ≡ side.B }
+        ensures { IfOk result (λ next. GoesOn fresh pairs (no_goods log.now) blocked.now self.new.sides.items self.new.reasons.items next (moments_left pairs self.old.sides.items (phase.Resolved resolvent))) }
+    {
+        let first = self.reasons[at];
+        self.cut(at);
+        resolvent.marks.truncate(at);
+        let next = close_resolved(
+            log,
+            fresh,
+            pairs,
+            blocked,
+            self.sides.as_slice(),
+            first,
+            resolvent,
+        )?;
+        Ok(next)
+    }
+
+    /// Goes back by one pair, where a resolvent bars the sides.
+    pub(crate) fn back_resolved(
+        &mut self,
+        alloc: Global,
+        log: &mut Log,
+        index: &mut Index,
+        fresh: bool,
+        pairs: u32,
+        blocked: &PieceSet,
+        at: usize,
+        resolvent: Resolvent,
+    ) -> Result<Phase, AllocError>
+        requires few { pairs ≤ MOST_PAIRS }
+        requires named { All (NamesBelow pairs) (no_goods log.old) }
+        requires last { at + 1 ≡ length self.old.sides.items }
+        requires kept { IsWalk fresh pairs (no_goods log.old) blocked.now self.old.sides.items self.old.reasons.items }
+        requires resolvent { IsResolvent (no_goods log.old) self.old.sides.items resolvent.marks.items resolvent.hints.items }
+        ensures grown { Grown pairs log.old log.new }
+        ensures next { IfOk result (λ next. GoesOn fresh pairs (no_goods log.new) blocked.now self.new.sides.items self.new.reasons.items next (moments_left pairs self.old.sides.items (phase.Resolved resolvent))) }
+    {
+        if !resolvent.marks[at] {
+            return Ok(self.back_past(log, fresh, pairs, blocked, at, resolvent));
+        }
+        match self.sides[at] {
+            Side::A => self.back_to_a(alloc, log, index, fresh, pairs, blocked, at, resolvent),
+            Side::B => self.back_over_b(log, fresh, pairs, blocked, at, resolvent),
         }
     }
 
