@@ -1,1 +1,2 @@
 pub mod OneCase
+pub mod CaseRuns

@@ -1,3 +1,4 @@
 pub mod Refusals
 pub mod Inputs
 pub mod Answers
+pub mod Runs

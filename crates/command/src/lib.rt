@@ -13,6 +13,6 @@ pub use laws::{
     a_deck_alone_is_read_once, an_input_begins_with_one_case, spelled_cases_are_cases,
     verdicts_are_true_of_the_bytes,
 };
-pub use reading::{case_in, read_case, take};
+pub use reading::{MOST_DECK_BYTES, case_in, read_case, take};
 pub use refusal::Refusal;
-pub use writing::{Status, WRITE_FAULT, give, give_no_memory};
+pub use writing::{Status, WRITE_FAULT, give, give_no_memory, give_refusal};

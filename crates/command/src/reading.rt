@@ -19,6 +19,9 @@ use lpcc_case::Case;
 use mps_pairs::{Deck, DeckFault, nothing_after, read_deck};
 use std::alloc::Global;
 
+/// The most bytes that a command takes which reads a deck alone.
+pub const MOST_DECK_BYTES: usize = 67_108_864;
+
 /// All bytes of the source, at most `limit`.
 pub fn take<S: Source>(alloc: Global, src: &mut S, limit: usize) -> Result<Vec<u8>, Refusal>
     ensures whole { IfOk result (λ v. (bytes : List ℕ) → S.left src.old ≡ Some bytes → v.items ≡ bytes) }

@@ -1,0 +1,8 @@
+//! What is written of a run: the text and the status of each way in which it ends.
+#![tactic(auto)]
+
+mod forms;
+mod relaxation;
+
+pub use forms::{form_text, push_forms};
+pub use relaxation::Relaxation;
