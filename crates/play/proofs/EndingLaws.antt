@@ -11,6 +11,7 @@ use Rattle.lpcc_case.specs.declared.point.Point.{Point}
 use Rattle.cert_text.specs.declared.cert.Cert.{Cert}
 use Rattle.cert_text.specs.declared.cert.Cert.TheVariants as cert
 use Rattle.cert_text.specs.declared.cert.CertPoint.{CertPoint}
+use Rattle.derivation.specs.declared.step.Step.{Step}
 use Rattle.cert_text.specs.declared.cert.CertLine.{CertLine}
 use Rattle.play.specs.declared.event.Aside.{Aside}
 use Rattle.play.specs.declared.event.Options.{Options}
@@ -25,7 +26,7 @@ use Rattle.play.specs.declared.outcome.Cause.TheVariants as cause
 use Rattle.play.specs.Parts.{Part}
 use Rattle.play.specs.Points.{choices_of}
 use Rattle.play.specs.Truth.{AreApart, IsOrderly, ticket_of}
-use Rattle.trimming.specs.Trimmed.{IsFirstEmpty, IsReached}
+use Rattle.trimming.specs.Trimmed.{AreReached, IsFirstEmpty, IsReached}
 use Rattle.play.specs.Certificates.{AreTrimmedLines, IsCertOf, line_at, cert_point, terms_from}
 use Rattle.play.specs.Endings.{IsEnding, IsStuck, IsOut, aside_of}
 use Rattle.play.proofs.ListLaws.{here, there, front_or_rest}
@@ -78,7 +79,7 @@ same_numbers (x ∷ xs) (y ∷ ys) u v f g =
 
 -- ---- the certificate
 
-first_same : (log : List Rattle.derivation.specs.declared.step.Step.Step) (e f : ℕ) → IsFirstEmpty log e → IsFirstEmpty log f → e ≡ f
+first_same : (log : List Step) (e f : ℕ) → IsFirstEmpty log e → IsFirstEmpty log f → e ≡ f
 first_same log e f x y = elim (cases_lt e f) [
   | inl below ↦ absurd (y.first e below x.empty)
   | inr past ↦ elim (cases_lt f e) [
@@ -87,14 +88,17 @@ first_same log e f x y = elim (cases_lt e f) [
   ]
 ]
 
-pub trimmed_same : (d : Part) (xs ys : List CertLine) → AreTrimmedLines d xs → AreTrimmedLines d ys → xs ≡ ys
-trimmed_same d xs ys x y =
-    let P : ℕ → ℕ → Type 0 = λ e k. IsReached d.log e k in
-    let first = first_same d.log x.kept.first y.kept.first x.kept.empty y.kept.empty in
-    let places = same_numbers x.places y.places x.kept.ascending y.kept.ascending
-    (λ k c. (y.kept.reached k).1 (subst (λ e. P e k) first ((x.kept.reached k).0 c)))
-    (λ k c. (x.kept.reached k).1 (subst (λ e. P e k) (sym first) ((y.kept.reached k).0 c))) in
-    x.made ∙ ap (λ l. map (line_at d l) l) places ∙ sym y.made
+-- the steps that the first empty step reaches are determined
+pub reached_same : (log : List Step) (xs ys : List ℕ) → AreReached log xs → AreReached log ys → xs ≡ ys
+reached_same log xs ys x y =
+    let P : ℕ → ℕ → Type 0 = λ e k. IsReached log e k in
+    let first = first_same log x.first y.first x.empty y.empty in
+    same_numbers xs ys x.ascending y.ascending
+    (λ k c. (y.reached k).1 (subst (λ e. P e k) first ((x.reached k).0 c)))
+    (λ k c. (x.reached k).1 (subst (λ e. P e k) (sym first) ((y.reached k).0 c)))
+
+pub trimmed_same : (d : Part) (xs ys : List CertLine) → AreTrimmedLines d.absorbed d.log xs → AreTrimmedLines d.absorbed d.log ys → xs ≡ ys
+trimmed_same d xs ys x y = x.made ∙ ap (λ l. map (line_at d.absorbed d.log l) l) (reached_same d.log x.places y.places x.kept y.kept) ∙ sym y.made
 
 optimal_of : CertPoint → Rattle.std.specs.Prelude.ℤ → List CertLine → Cert
 optimal_of p z l = cert.Optimal p z l

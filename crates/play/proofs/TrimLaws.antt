@@ -48,7 +48,7 @@ further (p ∷ places) (suc i) (suc j) up le inside = further places i j (rest_u
 
 -- ---- the lines
 
-start_at : (log : List Step) (p : ℕ) (ng : List Choice) → p < length log → step_at log p ≡ Start ng → (length (starts_of (take p log)) < length (starts_of log)) × (get_or (starts_of log) (length (starts_of (take p log))) [] ≡ ng)
+pub start_at : (log : List Step) (p : ℕ) (ng : List Choice) → p < length log → step_at log p ≡ Start ng → (length (starts_of (take p log)) < length (starts_of log)) × (get_or (starts_of log) (length (starts_of (take p log))) [] ≡ ng)
 start_at [] p ng inside e = absurd (omega (arith, inside))
 start_at (Start n ∷ log) zero ng inside e = let same : n ≡ ng = cc in (omega arith, same)
 start_at (Derived n hints ∷ log) zero ng inside e = absurd (cc)
@@ -56,14 +56,14 @@ start_at (Start n ∷ log) (suc p) ng inside e = let rest = start_at log p ng (o
 start_at (Derived n hints ∷ log) (suc p) ng inside e = start_at log p ng (omega (arith, inside)) e
 
 -- the cut of a start
-cut_of_start : (a : Instance) (drawn : List (List Side)) (d : Part) (p : ℕ) (ng : List Choice) → IsTrueToBest a drawn d → p < length d.log → step_at d.log p ≡ Start ng → Contains d.absorbed (cut_at d p) × (cuts.no_good_of (cut_at d p) ≡ ng)
+cut_of_start : (a : Instance) (drawn : List (List Side)) (d : Part) (p : ℕ) (ng : List Choice) → IsTrueToBest a drawn d → p < length d.log → step_at d.log p ≡ Start ng → Contains d.absorbed (cut_at d.absorbed d.log p) × (cuts.no_good_of (cut_at d.absorbed d.log p) ≡ ng)
 cut_of_start a drawn d p ng h inside e =
     let found = start_at d.log p ng inside e in
     let n = length (starts_of (take p d.log)) in
     let size : length (starts_of d.log) ≡ length d.absorbed = ap length h.starts ∙ length-map d.absorbed cuts.no_good_of in
     let within : n < length d.absorbed = omega (arith, found.0, size) in
-    let read : cuts.no_good_of (cut_at d p) ≡ get_or (map cuts.no_good_of d.absorbed) n [] = sym (get_or-map cuts.no_good_of d.absorbed n (cut.Ray [] [])) in
-    ((n, within, get_or_default d.absorbed n (cut_at d p) (cut.Ray [] []) within), read ∙ ap (λ l. get_or l n []) (sym h.starts) ∙ found.1)
+    let read : cuts.no_good_of (cut_at d.absorbed d.log p) ≡ get_or (map cuts.no_good_of d.absorbed) n [] = sym (get_or-map cuts.no_good_of d.absorbed n (cut.Ray [] [])) in
+    ((n, within, get_or_default d.absorbed n (cut_at d.absorbed d.log p) (cut.Ray [] []) within), read ∙ ap (λ l. get_or l n []) (sym h.starts) ∙ found.1)
 
 line_cut_no_good : (c : Cut) → certs.no_good_of (line_of_cut c) ≡ cuts.no_good_of c
 line_cut_no_good (cut.Ray ng mult) = refl
@@ -76,12 +76,12 @@ line_cut_backed a d earlier (cut.Point ng mult e v) c = (v, c)
 no_good_at : (log : List Step) (p : ℕ) → get_or (no_goods log) p [] ≡ no_good_of (step_at log p)
 no_good_at log p = get_or-map no_good_of log p (Start [])
 
-by_step : (a : Instance) (drawn : List (List Side)) (d : Part) (places : List ℕ) (p : ℕ) (s : Step) → IsTrueToBest a drawn d → p < length d.log → step_at d.log p ≡ s → certs.no_good_of (line_of (cut_at d p) places s) ≡ no_good_of s
-by_step a drawn d places p (Start ng) h inside e = line_cut_no_good (cut_at d p) ∙ (cut_of_start a drawn d p ng h inside e).1
+by_step : (a : Instance) (drawn : List (List Side)) (d : Part) (places : List ℕ) (p : ℕ) (s : Step) → IsTrueToBest a drawn d → p < length d.log → step_at d.log p ≡ s → certs.no_good_of (line_of (cut_at d.absorbed d.log p) places s) ≡ no_good_of s
+by_step a drawn d places p (Start ng) h inside e = line_cut_no_good (cut_at d.absorbed d.log p) ∙ (cut_of_start a drawn d p ng h inside e).1
 by_step a drawn d places p (Derived ng hints) h inside e = refl
 
 -- a line has the no-good of its step
-line_no_good : (a : Instance) (drawn : List (List Side)) (d : Part) (places : List ℕ) (p : ℕ) → IsTrueToBest a drawn d → p < length d.log → certs.no_good_of (line_at d places p) ≡ get_or (no_goods d.log) p []
+line_no_good : (a : Instance) (drawn : List (List Side)) (d : Part) (places : List ℕ) (p : ℕ) → IsTrueToBest a drawn d → p < length d.log → certs.no_good_of (line_at d.absorbed d.log places p) ≡ get_or (no_goods d.log) p []
 line_no_good a drawn d places p h inside = by_step a drawn d places p (step_at d.log p) h inside refl ∙ sym (no_good_at d.log p)
 
 -- ---- a kept step
@@ -89,26 +89,26 @@ line_no_good a drawn d places p h inside = by_step a drawn d places p (step_at d
 first_inside : (log : List Step) (e : ℕ) → IsFirstEmpty log e → e < length log
 first_inside log e x = omega (arith, slice_get_within (no_goods log) e [] x.empty, length-map log no_good_of)
 
-kept_inside : (a : Instance) (drawn : List (List Side)) (d : Part) (lines : List CertLine) (t : AreTrimmedLines d lines) (p : ℕ) → IsTrueToBest a drawn d → Contains t.places p → (p ≤ t.kept.first) × (p < length d.log)
+kept_inside : (a : Instance) (drawn : List (List Side)) (d : Part) (lines : List CertLine) (t : AreTrimmedLines d.absorbed d.log lines) (p : ℕ) → IsTrueToBest a drawn d → Contains t.places p → (p ≤ t.kept.first) × (p < length d.log)
 kept_inside a drawn d lines t p h c =
     let inside = first_inside d.log t.kept.first t.kept.empty in
     let path = (t.kept.reached p).0 c in
     let le = path_below d.log t.kept.first path.0 p h.log inside path.1 in
     (le, omega (arith, le, inside))
 
-lines_before : (d : Part) (places : List ℕ) (k j : ℕ) → k ≤ length places → j < k → (j < length (map certs.no_good_of (take k (map (line_at d places) places)))) × (get_or (map certs.no_good_of (take k (map (line_at d places) places))) j [] ≡ certs.no_good_of (line_at d places (get_or places j 0)))
+lines_before : (d : Part) (places : List ℕ) (k j : ℕ) → k ≤ length places → j < k → (j < length (map certs.no_good_of (take k (map (line_at d.absorbed d.log places) places)))) × (get_or (map certs.no_good_of (take k (map (line_at d.absorbed d.log places) places))) j [] ≡ certs.no_good_of (line_at d.absorbed d.log places (get_or places j 0)))
 lines_before d places k j few below =
-    let lines = map (line_at d places) places in
-    let size : length lines ≡ length places = length-map places (line_at d places) in
+    let lines = map (line_at d.absorbed d.log places) places in
+    let size : length lines ≡ length places = length-map places (line_at d.absorbed d.log places) in
     let taken : length (take k lines) ≡ k = length-take-le k lines (omega (arith, few, size)) in
     let all : length (map certs.no_good_of (take k lines)) ≡ k = length-map (take k lines) certs.no_good_of ∙ taken in
     let none : CertLine = line.Derived [] [] in
     let one : get_or (map certs.no_good_of (take k lines)) j [] ≡ certs.no_good_of (get_or (take k lines) j none) = get_or-map certs.no_good_of (take k lines) j none in
     let two : get_or (take k lines) j none ≡ get_or lines j none = get_or-take k lines j none below in
-    let three : get_or lines j none ≡ get_or lines j (line_at d places 0) = get_or_default lines j none (line_at d places 0) (omega (arith, few, size, below)) in
-    (omega (arith, all, below), one ∙ ap certs.no_good_of (two ∙ three ∙ get_or-map (line_at d places) places j 0))
+    let three : get_or lines j none ≡ get_or lines j (line_at d.absorbed d.log places 0) = get_or_default lines j none (line_at d.absorbed d.log places 0) (omega (arith, few, size, below)) in
+    (omega (arith, all, below), one ∙ ap certs.no_good_of (two ∙ three ∙ get_or-map (line_at d.absorbed d.log places) places j 0))
 
-hint_moves : (a : Instance) (drawn : List (List Side)) (d : Part) (lines : List CertLine) (t : AreTrimmedLines d lines) (k p h : ℕ) → IsTrueToBest a drawn d → k < length t.places → get_or t.places k 0 ≡ p → p < length d.log → Contains (hints_of (step_at d.log p)) h → h < length (no_goods (take p d.log)) → Moves (no_goods (take p d.log)) (map certs.no_good_of (take k (map (line_at d t.places) t.places))) (place_of t.places) h
+hint_moves : (a : Instance) (drawn : List (List Side)) (d : Part) (lines : List CertLine) (t : AreTrimmedLines d.absorbed d.log lines) (k p h : ℕ) → IsTrueToBest a drawn d → k < length t.places → get_or t.places k 0 ≡ p → p < length d.log → Contains (hints_of (step_at d.log p)) h → h < length (no_goods (take p d.log)) → Moves (no_goods (take p d.log)) (map certs.no_good_of (take k (map (line_at d.absorbed d.log t.places) t.places))) (place_of t.places) h
 hint_moves a drawn d lines t k p h truth inside is within c low =
     let P : ℕ → Type 0 = λ m. Contains t.places m in
     let kept : P p = subst P is (Contains-get_or t.places k 0 inside) in
@@ -119,39 +119,39 @@ hint_moves a drawn d lines t k p h truth inside is within c low =
     let early = before_place t.places (place_of t.places h) k t.kept.ascending found.0 (omega (arith, found.1, is, below)) in
     let there_is = lines_before d t.places k (place_of t.places h) (omega (arith, inside)) early in
     let read : get_or (no_goods (take p d.log)) h [] ≡ get_or (no_goods d.log) h [] = ap (λ l. get_or l h []) (sym (take-map no_good_of p d.log)) ∙ get_or-take p (no_goods d.log) h [] below in
-    (there_is.0, there_is.1 ∙ ap (λ m. certs.no_good_of (line_at d t.places m)) found.1 ∙ line_no_good a drawn d t.places h truth (omega (arith, below, within)) ∙ sym read)
+    (there_is.0, there_is.1 ∙ ap (λ m. certs.no_good_of (line_at d.absorbed d.log t.places m)) found.1 ∙ line_no_good a drawn d t.places h truth (omega (arith, below, within)) ∙ sym read)
 
 all_move : (earlier out : List (List Choice)) (f : ℕ → ℕ) (all hints : List ℕ) → ((h : ℕ) → Contains all h → h < length earlier → Moves earlier out f h) → ((h : ℕ) → Contains hints h → Contains all h) → AllByRecursion (λ h. h < length earlier) hints → AllByRecursion (Moves earlier out f) hints
 all_move earlier out f all [] moves within low = tt
 all_move earlier out f all (h ∷ hints) moves within low =
     (moves h (within h (here h hints)) low.0, all_move earlier out f all hints moves (λ g c. within g (there h hints g c)) low.1)
 
-kept_backed : (a : Instance) (drawn : List (List Side)) (d : Part) (lines : List CertLine) (t : AreTrimmedLines d lines) (k p : ℕ) (s : Step) → IsTrueToBest a drawn d → k < length t.places → get_or t.places k 0 ≡ p → p < length d.log → step_at d.log p ≡ s → IsBackedLine a d (map certs.no_good_of (take k (map (line_at d t.places) t.places))) (line_of (cut_at d p) t.places s)
+kept_backed : (a : Instance) (drawn : List (List Side)) (d : Part) (lines : List CertLine) (t : AreTrimmedLines d.absorbed d.log lines) (k p : ℕ) (s : Step) → IsTrueToBest a drawn d → k < length t.places → get_or t.places k 0 ≡ p → p < length d.log → step_at d.log p ≡ s → IsBackedLine a d (map certs.no_good_of (take k (map (line_at d.absorbed d.log t.places) t.places))) (line_of (cut_at d.absorbed d.log p) t.places s)
 kept_backed a drawn d lines t k p (Start ng) truth inside is within e =
-    line_cut_backed a d (map certs.no_good_of (take k (map (line_at d t.places) t.places))) (cut_at d p) (cut_of_start a drawn d p ng truth within e).0
+    line_cut_backed a d (map certs.no_good_of (take k (map (line_at d.absorbed d.log t.places) t.places))) (cut_at d.absorbed d.log p) (cut_of_start a drawn d p ng truth within e).0
 kept_backed a drawn d lines t k p (Derived ng hints) truth inside is within e =
-    let out = map certs.no_good_of (take k (map (line_at d t.places) t.places)) in
+    let out = map certs.no_good_of (take k (map (line_at d.absorbed d.log t.places) t.places)) in
     let follows : closes (no_goods (take p d.log)) ng hints ≡ true = truth.log p (Derived ng hints) (slice_get-get_or d.log p (Start []) within ∙ ap (λ x. Some x) e) in
     let P : Step → Type 0 = λ x. (h : ℕ) → Contains (hints_of x) h → h < length (no_goods (take p d.log)) → Moves (no_goods (take p d.log)) out (place_of t.places) h in
     let moves : P (Derived ng hints) = subst P e (λ h c low. hint_moves a drawn d lines t k p h truth inside is within c low) in
     let named : NamesPairs a ng = subst (NamesPairs a) (no_good_at d.log p ∙ ap no_good_of e) (All-get_or (NamesPairs a) (no_goods d.log) p [] (omega (arith, within, length-map d.log no_good_of)) truth.named) in
     (named, renumbered (no_goods (take p d.log)) out (place_of t.places) hints ng (all_move (no_goods (take p d.log)) out (place_of t.places) hints hints moves (λ h c. c) (hints_below (no_goods (take p d.log)) ng hints follows)) follows)
 
-each_backed : (a : Instance) (drawn : List (List Side)) (d : Part) (lines : List CertLine) (t : AreTrimmedLines d lines) (k : ℕ) (l : CertLine) → IsTrueToBest a drawn d → slice_get (map (line_at d t.places) t.places) k ≡ Some l → IsBackedLine a d (map certs.no_good_of (take k (map (line_at d t.places) t.places))) l
+each_backed : (a : Instance) (drawn : List (List Side)) (d : Part) (lines : List CertLine) (t : AreTrimmedLines d.absorbed d.log lines) (k : ℕ) (l : CertLine) → IsTrueToBest a drawn d → slice_get (map (line_at d.absorbed d.log t.places) t.places) k ≡ Some l → IsBackedLine a d (map certs.no_good_of (take k (map (line_at d.absorbed d.log t.places) t.places))) l
 each_backed a drawn d lines t k l truth found =
-    let made = map (line_at d t.places) t.places in
-    let inside : k < length t.places = omega (arith, slice_get_within made k l found, length-map t.places (line_at d t.places)) in
+    let made = map (line_at d.absorbed d.log t.places) t.places in
+    let inside : k < length t.places = omega (arith, slice_get_within made k l found, length-map t.places (line_at d.absorbed d.log t.places)) in
     let p = get_or t.places k 0 in
     let kept = kept_inside a drawn d lines t p truth (Contains-get_or t.places k 0 inside) in
-    let read : line_at d t.places p ≡ l = sym (get_or-map (line_at d t.places) t.places k 0) ∙ get_or_default made k (line_at d t.places 0) l (slice_get_within made k l found) ∙ get_or_from_slice_get made k l l found in
+    let read : line_at d.absorbed d.log t.places p ≡ l = sym (get_or-map (line_at d.absorbed d.log t.places) t.places k 0) ∙ get_or_default made k (line_at d.absorbed d.log t.places 0) l (slice_get_within made k l found) ∙ get_or_from_slice_get made k l l found in
     subst (IsBackedLine a d (map certs.no_good_of (take k made))) read (kept_backed a drawn d lines t k p (step_at d.log p) truth inside refl kept.1 refl)
 
 -- the last kept step is the empty one
-last_empty : (a : Instance) (drawn : List (List Side)) (d : Part) (lines : List CertLine) (t : AreTrimmedLines d lines) → IsTrueToBest a drawn d → EndsEmpty (map (line_at d t.places) t.places)
+last_empty : (a : Instance) (drawn : List (List Side)) (d : Part) (lines : List CertLine) (t : AreTrimmedLines d.absorbed d.log lines) → IsTrueToBest a drawn d → EndsEmpty (map (line_at d.absorbed d.log t.places) t.places)
 last_empty a drawn d lines t truth =
-    let made = map (line_at d t.places) t.places in
+    let made = map (line_at d.absorbed d.log t.places) t.places in
     let first : Contains t.places t.kept.first = (t.kept.reached t.kept.first).1 ([], refl) in
-    let size : length made ≡ length t.places = length-map t.places (line_at d t.places) in
+    let size : length made ≡ length t.places = length-map t.places (line_at d.absorbed d.log t.places) in
     let some : 0 < length t.places = omega (arith, first.1) in
     let last = length made - 1 in
     let inside : last < length t.places = omega (arith, size, some) in
@@ -161,13 +161,13 @@ last_empty a drawn d lines t truth =
     let same : get_or t.places last 0 ≡ t.kept.first = omega (arith, le, ge, at_first) in
     let none : CertLine = line.Derived [] [] in
     let within : last < length (map certs.no_good_of made) = omega (arith, inside, size, length-map made certs.no_good_of) in
-    let read : get_or (map certs.no_good_of made) last [] ≡ certs.no_good_of (line_at d t.places (get_or t.places last 0)) =
-    get_or-map certs.no_good_of made last none ∙ ap certs.no_good_of (get_or_default made last none (line_at d t.places 0) (omega (arith, inside, size)) ∙ get_or-map (line_at d t.places) t.places last 0) in
-    let empty : certs.no_good_of (line_at d t.places t.kept.first) ≡ [] =
+    let read : get_or (map certs.no_good_of made) last [] ≡ certs.no_good_of (line_at d.absorbed d.log t.places (get_or t.places last 0)) =
+    get_or-map certs.no_good_of made last none ∙ ap certs.no_good_of (get_or_default made last none (line_at d.absorbed d.log t.places 0) (omega (arith, inside, size)) ∙ get_or-map (line_at d.absorbed d.log t.places) t.places last 0) in
+    let empty : certs.no_good_of (line_at d.absorbed d.log t.places t.kept.first) ≡ [] =
     line_no_good a drawn d t.places t.kept.first truth (first_inside d.log t.kept.first t.kept.empty) ∙ get_or_from_slice_get (no_goods d.log) t.kept.first [] [] t.kept.empty.empty in
-    slice_get-get_or (map certs.no_good_of made) last [] within ∙ ap (λ x. Some x) (read ∙ ap (λ m. certs.no_good_of (line_at d t.places m)) same ∙ empty)
+    slice_get-get_or (map certs.no_good_of made) last [] within ∙ ap (λ x. Some x) (read ∙ ap (λ m. certs.no_good_of (line_at d.absorbed d.log t.places m)) same ∙ empty)
 
-pub trimmed_backed : (a : Instance) (drawn : List (List Side)) (d : Part) (lines : List CertLine) → IsTrueToBest a drawn d → AreTrimmedLines d lines → AreBacked a d lines
+pub trimmed_backed : (a : Instance) (drawn : List (List Side)) (d : Part) (lines : List CertLine) → IsTrueToBest a drawn d → AreTrimmedLines d.absorbed d.log lines → AreBacked a d lines
 trimmed_backed a drawn d lines truth t =
     let P : List CertLine → Type 0 = λ l. AreBacked a d l in
     subst P (sym t.made) (record { each = λ k l found. each_backed a drawn d lines t k l truth found; ends = last_empty a drawn d lines t truth })

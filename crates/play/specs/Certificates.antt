@@ -43,21 +43,21 @@ line_of_cut (cut.Ray ng mult) = line.Ray ng mult
 line_of_cut (cut.Point ng mult e v) = line.Point ng e mult
 
 -- the absorbed cut whose start is step k
-abbrev pub cut_at : Part → ℕ → Cut
-cut_at d k = slice_index_or d.absorbed (length (starts_of (take k d.log))) (cut.Ray [] [])
+abbrev pub cut_at : List Cut → List Step → ℕ → Cut
+cut_at absorbed log k = slice_index_or absorbed (length (starts_of (take k log))) (cut.Ray [] [])
 
 abbrev pub line_of : Cut → List ℕ → Step → CertLine
 line_of c places (Start ng) = line_of_cut c
 line_of c places (Derived ng hints) = line.Derived ng (map (place_of places) hints)
 
-abbrev pub line_at : Part → List ℕ → ℕ → CertLine
-line_at d places k = line_of (cut_at d k) places (step_at d.log k)
+abbrev pub line_at : List Cut → List Step → List ℕ → ℕ → CertLine
+line_at absorbed log places k = line_of (cut_at absorbed log k) places (step_at log k)
 
 -- the steps that the first empty step reaches, in their order, with their cuts and the hints numbered anew
-pub record AreTrimmedLines (d : Part) (lines : List CertLine) : Type 0 where
+pub record AreTrimmedLines (absorbed : List Cut) (log : List Step) (lines : List CertLine) : Type 0 where
   pub places : List ℕ
-  pub kept : AreReached d.log places
-  pub made : lines ≡ map (line_at d places) places
+  pub kept : AreReached log places
+  pub made : lines ≡ map (line_at absorbed log places) places
 
 -- ---- lines that pass
 
@@ -85,7 +85,7 @@ IsCertBy Lines d kind.Unbounded (cert.Infeasible lines) = ⊥
 IsCertBy Lines d kind.Unbounded (cert.Unbounded piece point ray) = (x : Direction) × (d.unbounded ≡ Some x) × (piece ≡ choices_of x.piece) × (point ≡ cert_point x.point) × (ray ≡ terms_from 0 x.ray.r)
 
 abbrev pub IsCertOf : Part → VerdictKind → Cert → Type 0
-IsCertOf d v c = IsCertBy (AreTrimmedLines d) d v c
+IsCertOf d v c = IsCertBy (AreTrimmedLines d.absorbed d.log) d v c
 
 abbrev pub IsBackedCert : Instance → Part → VerdictKind → Cert → Type 0
 IsBackedCert a d v c = IsCertBy (AreBacked a d) d v c
