@@ -10,3 +10,5 @@ pub mod Fractions
 pub mod WideLists
 pub mod Solved
 pub mod Receding
+pub mod FormSteps
+pub mod Lowest

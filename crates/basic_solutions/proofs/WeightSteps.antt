@@ -19,7 +19,7 @@ pub record TermsOf (g : ℕ → ℤ) (k : ℕ) (ts : List (ℕ × ℤ)) : Type 0
   pub terms : AreTerms (2 ^ 63) 0 k ts
   pub numbers : (j : ℕ) → j < k → coefficient ts j ≡ g j
 
-past_end : (n l : ℕ) (ts : List (ℕ × ℤ)) → n ≤ l → AllByRecursion (λ t. t.0 < n) ts → coefficient ts l ≡ pos 0
+pub past_end : (n l : ℕ) (ts : List (ℕ × ℤ)) → n ≤ l → AllByRecursion (λ t. t.0 < n) ts → coefficient ts l ≡ pos 0
 past_end n l [] h all = refl
 past_end n l (t ∷ ts) h all =
     let e : cond (eqb t.0 l) t.1 (pos 0) ≡ pos 0 = share_other t.0 l t.1 (λ same. omega (arith, all.0, h, same)) in

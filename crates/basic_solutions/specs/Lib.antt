@@ -4,3 +4,4 @@ pub mod Solutions
 pub mod Commons
 pub mod Readings
 pub mod RowCuts
+pub mod Orders

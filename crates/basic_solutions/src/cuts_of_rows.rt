@@ -1,7 +1,8 @@
 //! The cuts that show the ends of walks.
-ghost use Rattle.std.specs.Prelude.{◌≡◌, ◌≢◌, ◌<◌, ◌*ℤ◌, pos, true, length, IfOk};
+ghost use Rattle.std.specs.Prelude.{◌≡◌, ◌≢◌, ◌<◌, ◌*ℤ◌, ◌<ℤ◌, pos, true, length, IfOk};
 ghost use Rattle.lpcc_case.specs.Pieces.{NamesPairs};
 ghost use Rattle.dict.specs.Dictionaries.{form_at, row_at};
+ghost use Rattle.dict.specs.Exchanges.{turn};
 ghost use Rattle.walks.specs.Duals.{IsPlaced, NoneFree, NoneHelps};
 ghost use Rattle.walks.specs.Steps.{IsSized, IsStageRow, is_last};
 ghost use Rattle.walks.specs.Values.{is_fixed};
@@ -37,6 +38,16 @@ fn cut_of_row(
     Ok((ng, mult))
 }
 
+/// The sign with which the constant of a row is below 0.
+#[inline(always)]
+fn falling_sign(dict: &Dict, row: u32) -> bool
+    requires row { row < length dict.now.rows }
+    requires some { (row_at dict.now.rows row).constant ≢ pos 0 }
+    ensures { turn result (row_at dict.now.rows row).constant <ℤ pos 0 }
+{
+    dict.constant(row) > 0
+}
+
 /// Where no form can enter for the constraint of a stage, which is below 0: the ray cut of its row.
 pub fn stuck_stage_cut(
     alloc: Global,
@@ -54,7 +65,9 @@ pub fn stuck_stage_cut(
     requires stuck { NoneHelps case.now tight.now (is_last case.now stage) dict.now row }
     ensures { IfOk result (IsRayCutOf case.now tight.now) }
 {
-    Err(AllocError)
+    let _forms = dict.nonbasic_forms();
+    let (ng, mult) = cut_of_row(alloc, case, tight, dict, row, false)?;
+    Ok(Cut::Ray { ng, mult })
 }
 
 /// Where constraint k, which is fixed and stands in this row, cannot be exchanged and its constant
@@ -78,7 +91,10 @@ pub fn stuck_exchange_cut(
     requires constant { (row_at dict.now.rows row).constant ≢ pos 0 }
     ensures { IfOk result (IsRayCutOf case.now tight.now) }
 {
-    Err(AllocError)
+    let _forms = dict.nonbasic_forms();
+    let sign = falling_sign(dict, row);
+    let (ng, mult) = cut_of_row(alloc, case, tight, dict, row, sign)?;
+    Ok(Cut::Ray { ng, mult })
 }
 
 /// Where no form can enter for the cost: the point cut of its row. Its bound is the value of the
@@ -97,5 +113,13 @@ pub fn lowest_cost_cut(
     requires value { ((row_at dict.now.rows (length case.now.constraints)).den *ℤ point.now.z) ≡ ((row_at dict.now.rows (length case.now.constraints)).constant *ℤ point.now.d) }
     ensures { IfOk result (IsPointCutOf case.now tight.now point.now) }
 {
-    Err(AllocError)
+    let _forms = dict.nonbasic_forms();
+    let row = case.constraints().len() as u32;
+    let (ng, mult) = cut_of_row(alloc, case, tight, dict, row, true)?;
+    Ok(Cut::Point {
+        ng,
+        mult,
+        e: dict.denominator(row),
+        v: i128::from(dict.constant(row)),
+    })
 }
