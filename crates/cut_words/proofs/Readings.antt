@@ -16,10 +16,10 @@ use Rattle.nogoods.specs.Choices.{pair_of, pairs_ascend}
 use Rattle.lpcc_case.specs.Instance.{Instance}
 use Rattle.cuts.specs.declared.cut.Cut.{Cut}
 use Rattle.cuts.specs.declared.cut.Cut.TheVariants.{Ray, Point}
-use Rattle.cuts.specs.Cuts.{no_good_of, multipliers_of, IsMultiplier, right_sum}
+use Rattle.cuts.specs.Cuts.{no_good_of, multipliers_of, IsMultiplier, right_sum, Passes}
 use Rattle.cut_words.specs.declared.read.Kind.{Kind}
 use Rattle.cut_words.specs.declared.read.Kind.TheVariants as kinds
-use Rattle.cut_words.specs.Words.{item_length, side_word, choice_word, multiplier_word, head_words, AreWordsOf, HasParts, IsInPlace, SpellsCut}
+use Rattle.cut_words.specs.Words.{item_length, side_word, choice_word, multiplier_word, head_words, AreWordsOf, HasParts, IsInPlace, SpellsCut, SpellsPassing}
 use Rattle.cut_words.specs.Reading.{elements, side_of, choice_of, multiplier_of, IsNarrowWord, AreChoiceWords, AreMultiplierWords, pair_words, constraint_words, cut_of, kind_words, HasKind, IsHead}
 use Rattle.cut_words.proofs.Elements.{AreRead, below, valids, ascending, spelled, unique, word_kept, all_map}
 use Rattle.cut_words.proofs.Casts.{narrow_back, word_multiplier, nonzero_word, narrow_word}
@@ -270,3 +270,10 @@ one_cut a c d words P S Q U =
     let mult : multipliers_of c ≡ multipliers_of d = same_multipliers a c words (multipliers_of d) P S (multipliers_of_cut a d words Q U) in
     let kind : h.0 ≡ k.0 = same_kind h.0 k.0 (length (no_good_of d)) a (multipliers_of d) (ap (λ (l : List Choice). kind_words h.0 (length l)) (sym ng) ∙ sym h.2.words ∙ k.2.words) (subst (λ (l : List (ℕ × ℤ)). HasKind a l h.0) mult h.2.parts) k.2.parts in
     h.1 ∙ (λ i. cut_of (kind i) (ng i) (mult i)) ∙ sym k.1
+
+-- words of a cut that passes are those of no other cut
+pub passing_same : (a : Instance) (cut : Cut) (words : List ℕ) → IsInPlace a cut → AreWordsOf a cut words → SpellsPassing a words → Passes a cut
+passing_same a cut words P S T = subst (Passes a) (one_cut a T.0 cut words T.1 T.2 P S) T.3
+
+pub passing_spells : (a : Instance) (words : List ℕ) → (SpellsCut a words → ⊥) → SpellsPassing a words → ⊥
+passing_spells a words n T = n (T.0, T.1, T.2)

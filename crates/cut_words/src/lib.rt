@@ -1,11 +1,14 @@
 //! The words of a cut, in which workers hand cuts to each other.
 #![tactic(auto)]
 
+mod check;
 mod laws;
 mod put;
 mod read;
+mod signs;
 mod sums;
 
+pub use check::are_passing_words;
 pub use laws::words_are_of_one_cut;
 pub use put::to_words;
 pub use read::from_words;

@@ -4,7 +4,7 @@ ghost use Rattle.std.specs.Int.{cast_unsigned};
 ghost use mir.Syntax.{w64};
 ghost use Rattle.nogoods.specs.declared.choice.Choice.{Choice};
 ghost use Rattle.nogoods.specs.Choices.{pairs_ascend};
-ghost use Rattle.lpcc_case.specs.declared.limits.TheConstants.{MOST_CONSTRAINTS, MOST_PAIRS};
+ghost use Rattle.lp_base.specs.declared.limits.TheConstants.{MOST_CONSTRAINTS, MOST_PAIRS};
 ghost use Rattle.cuts.specs.Cuts.{AreMultipliers, IsMultiplier};
 ghost use Rattle.cut_words.specs.Words.{item_length, AreWordsOf, IsInPlace, SpellsCut};
 ghost use Rattle.cut_words.specs.Reading.{elements, side_of, choice_of, multiplier_of, IsNarrowWord, AreChoiceWords, AreMultiplierWords, cut_of, IsHead, AreParts};
@@ -158,15 +158,15 @@ fn read_kind(case: &Case, head: &[u64], choices: usize, mult: &[(u32, i64)]) -> 
 
 /// What was read of an item: its kind, and how many choices and multipliers.
 #[derive(Clone, Copy)]
-struct Parts {
-    kind: Kind,
-    choices: usize,
-    multipliers: usize,
+pub struct Parts {
+    pub kind: Kind,
+    pub choices: usize,
+    pub multipliers: usize,
 }
 
 /// Reads the parts of the cut that has these words. None where they are the words of no cut.
 #[tactic(auto, using(crate::proofs::Readings::nones))]
-fn read_parts(
+pub fn read_parts(
     case: &Case,
     words: &[u64],
     choices: &mut [Choice],

@@ -2,8 +2,8 @@ use Rattle.cuts.proofs.Columns.{right_sum_small}
 use Rattle.cuts.proofs.Steps.{right_more}
 use Rattle.cut_words.proofs.sums.right_sum.Goals as goal
 
-pub add_product-sum-requires-clause-room : goal.add_product-sum-requires-clause-room
-add_product-sum-requires-clause-room c =
+pub add_product-sum-requires : goal.add_product-sum-requires
+add_product-sum-requires c =
     rw c.loop-multiplier.invariant (right_sum_small c.args.case.now c.args.mult.now c.loop-multiplier.multiplier-index c.constraints-constraints.ensures.kept c.requires)
 
 pub loop-multiplier-preserved : goal.loop-multiplier-preserved
