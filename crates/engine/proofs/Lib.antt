@@ -1,0 +1,4 @@
+pub mod Endings
+pub mod Asides
+pub mod Outcomes
+pub mod Turns

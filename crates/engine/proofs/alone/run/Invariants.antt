@@ -1,0 +1,13 @@
+use Rattle.std.proofs.Common.{ℕ, ◌-◌}
+use Rattle.play.specs.Points.{IsBest}
+use Rattle.engine.specs.Turns.{IsWaiting}
+use Rattle.engine.proofs.alone.run.Given as goal
+
+abbrev pub decreases-turns : goal.decreases-turns
+decreases-turns l = l.options.pieces - l.desk.part.drawn
+
+abbrev pub invariant-turns : goal.invariant-turns
+invariant-turns l = record {
+  waits : IsWaiting l.case l.options l.desk;
+  best : IsBest l.case l.known.incumbent;
+}
