@@ -13,10 +13,10 @@ use Rattle.dict.specs.Dictionaries.{Dictionary, form_at, entry_at, row_at}
 use Rattle.dict.proofs.Pivots.{by_eq}
 use Rattle.walks.specs.Duals.{Helps, NoneFree, NoneHelps}
 use Rattle.walks.specs.Steps.{IsFirst, MayExchange, number}
-use Rattle.lex_simplex.specs.Marks.{FirstAmong, place_at}
+use Rattle.lex_simplex.specs.Firsts.{FirstAmong, HasEps, place_at}
 
 -- a coefficient that is not 0 is that of a term
-abbrev IsSomeTerm : List (ℕ × ℤ) → ℕ → Type 0
+abbrev pub IsSomeTerm : List (ℕ × ℤ) → ℕ → Type 0
 IsSomeTerm ts j = (i : ℕ) × (i < length ts) × (place_at ts i ≡ j)
 
 some_by : (b : Bool) (t : ℕ × ℤ) (ts : List (ℕ × ℤ)) (j : ℕ) → eqb t.0 j ≡ b → (cond b t.1 (pos 0) +ℤ coefficient ts j ≡ pos 0 → ⊥) → ((coefficient ts j ≡ pos 0 → ⊥) → IsSomeTerm ts j) → IsSomeTerm (t ∷ ts) j
@@ -25,7 +25,7 @@ some_by false t ts j e h rest =
     let r = rest (λ z. h (+ℤ_idl (coefficient ts j) ∙ z)) in
     (suc r.0, omega (arith, r.1), r.2)
 
-some_term : (ts : List (ℕ × ℤ)) (j : ℕ) → (coefficient ts j ≡ pos 0 → ⊥) → IsSomeTerm ts j
+pub some_term : (ts : List (ℕ × ℤ)) (j : ℕ) → (coefficient ts j ≡ pos 0 → ⊥) → IsSomeTerm ts j
 some_term [] j h = absurd (h refl)
 some_term (t ∷ ts) j h = some_by (eqb t.0 j) t ts j refl h (some_term ts j)
 
@@ -65,13 +65,21 @@ pub first_exchangeable : (a : Instance) (tight : List Choice) (d : Dictionary) (
 first_exchangeable a tight d row n ts best e le h =
     first_of_all a d.nonbasic ts (MayExchange a tight d row) n best le (λ j p z. p.1 (sym (ap (λ (us : List (ℕ × ℤ)). coefficient us j) e) ∙ z)) h
 
-zero_from : (z : ℤ) → ((z ≡ pos 0 → ⊥) → ⊥) → z ≡ pos 0
+pub zero_from : (z : ℤ) → ((z ≡ pos 0 → ⊥) → ⊥) → z ≡ pos 0
 zero_from z h = by_lt_z (pos 0) z (λ up. absurd (h (λ e. omega (arith, ints, up, e)))) (λ le. by_lt_z z (pos 0) (λ low. absurd (h (λ e. omega (arith, ints, low, e)))) (λ ge. omega (arith, ints, le, ge)))
 
 pub none_exchangeable : (a : Instance) (tight : List Choice) (d : Dictionary) (row n : ℕ) (ts : List (ℕ × ℤ)) (best : Option ℕ) → ts ≡ (row_at d.rows row).entries → length ts ≤ n → FirstAmong a d.nonbasic ts (MayExchange a tight d row) n best → IfNone best (NoneFree a tight d row)
 none_exchangeable a tight d row n ts None e le h = λ j lt free.
     zero_from (entry_at d row j) (λ some. none_of_all a d.nonbasic ts (MayExchange a tight d row) n None le (λ j p z. p.1 (sym (ap (λ (us : List (ℕ × ℤ)). coefficient us j) e) ∙ z)) h j (free, some))
 none_exchangeable a tight d row n ts (Some b) e le h = tt
+
+pub first_eps : (a : Instance) (tight : List Choice) (d : Dictionary) (row n : ℕ) (ts : List (ℕ × ℤ)) (best : Option ℕ) → ts ≡ (row_at d.rows row).entries → length ts ≤ n → FirstAmong a d.nonbasic ts (HasEps a tight d row) n best → IfSome best (IsFirst a d.nonbasic (HasEps a tight d row))
+first_eps a tight d row n ts best e le h =
+    first_of_all a d.nonbasic ts (HasEps a tight d row) n best le (λ j p z. p.1 (sym (ap (λ (us : List (ℕ × ℤ)). coefficient us j) e) ∙ z)) h
+
+pub no_eps : (a : Instance) (tight : List Choice) (d : Dictionary) (row n : ℕ) (ts : List (ℕ × ℤ)) (best : Option ℕ) → ts ≡ (row_at d.rows row).entries → length ts ≤ n → FirstAmong a d.nonbasic ts (HasEps a tight d row) n best → IfNone best ((j : ℕ) → j < length d.nonbasic → HasEps a tight d row j → ⊥)
+no_eps a tight d row n ts None e le h = λ j lt p. none_of_all a d.nonbasic ts (HasEps a tight d row) n None le (λ j p z. p.1 (sym (ap (λ (us : List (ℕ × ℤ)). coefficient us j) e) ∙ z)) h j p
+no_eps a tight d row n ts (Some b) e le h = tt
 
 -- a step of the loop
 pub first_stays : (a : Instance) (forms : List Form) (ts : List (ℕ × ℤ)) (P : ℕ → Type 0) (i : ℕ) (best : Option ℕ) → (P (place_at ts i) → ⊥) → FirstAmong a forms ts P i best → FirstAmong a forms ts P (i + 1) best

@@ -8,7 +8,7 @@ use Rattle.lpcc_case.specs.declared.form.Form.{Form}
 use Rattle.lpcc_case.specs.declared.form.Form.TheVariants.{Col, Con, Cost}
 use Rattle.lpcc_case.specs.Instance.{Instance}
 use Rattle.dict.specs.Exchanges.{turn}
-use Rattle.dict.specs.Dictionaries.{Dictionary, row_at, form_at, entry_at}
+use Rattle.dict.specs.Dictionaries.{Dictionary, form_at, entry_at}
 use Rattle.dict.proofs.Pivots.{by_eq}
 use Rattle.orders.proofs.Orders.{above_cases, above_same, less_trans}
 use Rattle.walks.specs.Values.{is_fixed, parts, value}
@@ -17,8 +17,9 @@ use Rattle.walks.specs.Steps.{IsSized, Blocks, IsLeaving, IsSooner, rate, distan
 use Rattle.walks.proofs.Keeps.{free_inside}
 use Rattle.walks.proofs.Unique.{apart}
 use Rattle.walks.proofs.Walks.{one_row, con_row}
-use Rattle.lex_simplex.specs.Marks.{SoonestUpto, lead}
-use Rattle.lex_simplex.proofs.Shares.{share_own, share_of_none, part_of_free}
+use Rattle.lex_simplex.specs.Ratios.{SoonestUpto, lead}
+use Rattle.basic_solutions.proofs.Shares.{share_of_none}
+use Rattle.lex_simplex.proofs.Shares.{own_value, part_of_free}
 
 pub con_inside : (a : Instance) (d : Dictionary) (i k : ℕ) → IsPlaced a d → i < length d.rows → form_at d.basic i ≡ Con k → k < length a.constraints
 con_inside a d i k placed h form = named (form_at d.basic i) k form (placed.basic i (con_row a d i k placed h form))
@@ -34,7 +35,7 @@ some_entry true z (inr h) = omega (arith, ints, h)
 some_entry false z (inl h) = omega (arith, ints, h)
 some_entry false z (inr h) = omega (arith, ints, h)
 
-entry_size : (a : Instance) (tight : List Choice) (stage goal_row col i : ℕ) (down : Bool) (d : Dictionary) → Blocks a tight stage d goal_row col down i → 0 < unsigned_abs (entry_at d i col)
+pub entry_size : (a : Instance) (tight : List Choice) (stage goal_row col i : ℕ) (down : Bool) (d : Dictionary) → Blocks a tight stage d goal_row col down i → 0 < unsigned_abs (entry_at d i col)
 entry_size a tight stage goal_row col i down d b = elim b.goes [
   | inl earlier ↦ some_entry down (entry_at d i col) (inl earlier.1)
   | inr own ↦ some_entry down (entry_at d i col) (inr own.2)
@@ -48,12 +49,7 @@ turn_some : (b : Bool) (z : ℤ) → turn b z ≡ pos 0 → z ≡ pos 0
 turn_some true z h = omega (arith, ints, h)
 turn_some false z h = h
 
-own_value : (a : Instance) (tight : List Choice) (d : Dictionary) (i k : ℕ) → IsSized a d → i < length d.rows → form_at d.basic i ≡ Con k → is_fixed a tight k ≡ false → value a tight d i (suc k) ≡ (row_at d.rows i).den
-own_value a tight d i k sized h form free =
-    let e : suc k - 1 ≡ k = omega arith in
-    part_of_free a tight d i (suc k) (omega arith) (ap (λ n. is_fixed a tight n) e ∙ free) ∙ share_own a d i (suc k - 1) sized h (form ∙ ap Con (sym e))
-
-other_value : (a : Instance) (tight : List Choice) (d : Dictionary) (i l k : ℕ) → IsSized a d → i < length d.rows → l < length d.rows → (i ≡ l → ⊥) → form_at d.basic i ≡ Con k → is_fixed a tight k ≡ false → value a tight d l (suc k) ≡ pos 0
+pub other_value : (a : Instance) (tight : List Choice) (d : Dictionary) (i l k : ℕ) → IsSized a d → i < length d.rows → l < length d.rows → (i ≡ l → ⊥) → form_at d.basic i ≡ Con k → is_fixed a tight k ≡ false → value a tight d l (suc k) ≡ pos 0
 other_value a tight d i l k sized hi hl other form free =
     let e : suc k - 1 ≡ k = omega arith in
     part_of_free a tight d l (suc k) (omega arith) (ap (λ n. is_fixed a tight n) e ∙ free)

@@ -2,7 +2,9 @@ pub mod Shares
 pub mod Scans
 pub mod Steps
 pub mod Firsts
+pub mod Belows
 pub mod Leaves
+pub mod Ties
 pub mod Nexts
 pub mod Looks
 pub mod Results

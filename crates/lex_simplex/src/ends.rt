@@ -4,10 +4,11 @@ ghost use Rattle.dict.specs.Dictionaries.{IsWideRow, row_at};
 ghost use Rattle.dict.specs.Equations.{Equation};
 ghost use Rattle.dict.specs.Forms.{IsDictionaryAt, IsWideDictionary, with_rows};
 ghost use Rattle.walks.specs.Ends.{IsPointAt, IsRayAt, IsWideAt};
-ghost use Rattle.walks.specs.Steps.{IsEntering, IsStageRow, goal, goes_down};
+ghost use Rattle.walks.specs.Steps.{IsEntering, IsStageRow, goal};
 ghost use Rattle.walks.specs.Walks.{IsOnWalk, IsStep};
 ghost use Rattle.lex_simplex.specs.Rounds.{NoneLeaves};
 
+use crate::next::is_down;
 use crate::values::constraints_of;
 use crate::walk::Walk;
 use basic_solutions::{nonbasic_forms, nonbasic_forms_after, point_of, ray_of};
@@ -87,4 +88,30 @@ pub fn point_here(
 {
     let _constraints = case.constraints();
     point_of(alloc, case, walk.dict())
+}
+
+/// The direction in which the form at the column goes, where it enters in the last stage and no
+/// form leaves. None where the dictionary is wide.
+pub fn ray_here(
+    alloc: Global,
+    case: &Case,
+    tight: &NoGood,
+    walk: &Walk,
+    row: u32,
+    col: u32,
+) -> Result<Option<Ray>, AllocError>
+    requires on { IsOnWalk case.now tight.now walk.now }
+    requires looked { walk.now.looked ≡ length case.now.constraints }
+    requires last { walk.now.stage ≡ length case.now.constraints }
+    requires row { IsStageRow case.now tight.now walk.now.stage walk.now.at row }
+    requires enters { IsEntering case.now tight.now walk.now.stage walk.now.at row col }
+    requires none { NoneLeaves case.now tight.now walk.now.stage walk.now.at row col }
+    ensures ray { IfOk result (λ found. IfSome found (IsRayAt case.now tight.now)) }
+    ensures some { IfOk result (λ found. IfNone found (0 < walk.now.steps)) }
+    ensures wide { IfOk result (λ found. IfNone found ((rows : List Equation) → IsDictionaryAt case.now (with_rows rows walk.now.at) → IsWideDictionary (with_rows rows walk.now.at))) }
+{
+    let _constraints = case.constraints();
+    let dict = walk.dict();
+    let down = is_down(case, dict, walk.stage(), row, col);
+    ray_of(alloc, case, dict, col, down)
 }

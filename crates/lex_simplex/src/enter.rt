@@ -6,7 +6,8 @@ ghost use Rattle.dict.specs.Terms.{AreTerms};
 ghost use Rattle.dict.specs.Dictionaries.{form_at, entry_at, row_at};
 ghost use Rattle.walks.specs.Duals.{Helps, IsNamed, NoneFree, NoneHelps, is_free};
 ghost use Rattle.walks.specs.Steps.{IsFirst, MayExchange, number};
-ghost use Rattle.lex_simplex.specs.Marks.{AreMarks, FirstAmong};
+ghost use Rattle.lex_simplex.specs.Firsts.{FirstAmong};
+ghost use Rattle.lex_simplex.specs.Marks.{AreMarks};
 
 use dict::Dict;
 use lpcc_case::{Case, Form};
@@ -75,7 +76,7 @@ fn number(case: &Case, form: Form) -> u32
 
 /// Whether the form at place j is before that at place b.
 #[inline(always)]
-fn is_before(case: &Case, dict: &Dict, j: u32, b: u32) -> bool
+pub fn is_before(case: &Case, dict: &Dict, j: u32, b: u32) -> bool
     requires j { j < length dict.now.nonbasic }
     requires b { b < length dict.now.nonbasic }
     requires named { (k : ℕ) → k < length dict.now.nonbasic → IsNamed case.now (form_at dict.now.nonbasic k) }

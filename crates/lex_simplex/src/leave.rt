@@ -1,146 +1,64 @@
-//! Which form leaves.
-ghost use Rattle.std.specs.Prelude.{◌≡◌, ◌≤◌, ◌<◌, ◌^◌, ◌↔◌, ◌-ℤ◌, ◌*ℤ◌, ◌≤ℤ◌, pos, int_lt, length, unsigned_abs, ℕ, ◌+◌, IsTrue, IfSome, IfNone};
+//! Which form leaves: of those that reach 0, the one that reaches it first.
+ghost use Rattle.std.specs.Prelude.{◌≡◌, ◌≢◌, ◌≤◌, ◌<◌, ◌^◌, ◌↔◌, pos, int_lt, length, unsigned_abs, ℕ, ◌+◌, IsTrue, Some, IfSome, IfNone};
 ghost use Rattle.lp_base.specs.Numbers.{IsNarrow};
-ghost use Rattle.dict.specs.Dictionaries.{entry_at};
-ghost use Rattle.dict.specs.Exchanges.{turn};
 ghost use Rattle.walks.specs.Duals.{IsPlaced};
-ghost use Rattle.walks.specs.Steps.{Blocks, IsLeaving, IsSized, IsSooner, distance, rate};
-ghost use Rattle.walks.specs.Values.{parts};
-ghost use Rattle.lex_simplex.specs.Marks.{AreMarks, SoonestUpto, lead};
+ghost use Rattle.walks.specs.Steps.{Blocks, IsLeaving, IsSized, IsSooner, rate};
+ghost use Rattle.lex_simplex.specs.Marks.{AreMarks};
+ghost use Rattle.lex_simplex.specs.Ratios.{AreCandidates, IsCandidate, SoonestUpto, best_row, lead};
 
-use crate::values::{constraints_of, part};
+use crate::tie::{difference_of_products, sooner_by_eps, turned};
 use dict::Dict;
 use lpcc_case::{Case, Form};
 use nogoods::NoGood;
 
-/// Whether the form of the row rises where the form at the column goes up, or down.
-fn rises(dict: &Dict, row: u32, col: u32, down: bool) -> bool
-    requires row { row < length dict.now.rows }
-    ensures { result ≡ int_lt (pos 0) (rate dict.now col down row) }
-{
-    let z = dict.entry(row, col);
-    if down { z < 0 } else { 0 < z }
+/// A row whose form reaches 0, with the numbers by which it is compared: the size of its entry at
+/// the column that enters, how far its form is from 0 by the constant alone, both times the row's
+/// denominator, and whether its form rises.
+#[derive(Clone, Copy, Debug, PartialEq, Eq)]
+pub struct Candidate {
+    pub row: u32,
+    pub size: i64,
+    pub far: i64,
+    pub rises: bool,
 }
 
-/// The size of the entry.
-fn size(dict: &Dict, row: u32, col: u32) -> i64
+/// How the form of the row changes, times its denominator.
+#[inline(always)]
+fn rate_of(dict: &Dict, row: u32, col: u32, down: bool) -> i64
     requires row { row < length dict.now.rows }
-    ensures value { result ≡ pos (unsigned_abs (entry_at dict.now row col)) }
+    ensures value { result ≡ rate dict.now col down row }
     ensures narrow { IsNarrow result }
 {
-    let z = dict.entry(row, col);
-    if z < 0 { -z } else { z }
+    turned(down, dict.entry(row, col))
 }
 
-/// Part p of how far the form of the row is from 0.
-fn far(
+/// Whether the form of the row may reach 0: it is a constraint that is not fixed, and its stage has
+/// come.
+#[inline(always)]
+fn may_block(
     case: &Case,
     tight: &NoGood,
     fixed: &[bool],
     dict: &Dict,
-    col: u32,
-    down: bool,
-    row: u32,
-    p: u32,
-) -> i64
-    requires marks { AreMarks case.now tight.now fixed.now }
-    requires sized { IsSized case.now dict.now }
-    requires row { row < length dict.now.rows }
-    requires p { p < parts case.now }
-    ensures value { result ≡ distance case.now tight.now dict.now col down row p }
-    ensures narrow { IsNarrow result }
-{
-    turned(
-        rises(dict, row, col, down),
-        part(case, tight, fixed, dict, row, p),
-    )
-}
-
-fn turned(flip: bool, z: i64) -> i64
-    requires { IsNarrow z }
-    ensures value { result ≡ turn flip z }
-    ensures narrow { IsNarrow result }
-{
-    if flip { -z } else { z }
-}
-
-fn product(a: i64, b: i64) -> i128
-    requires left { IsNarrow a }
-    requires right { IsNarrow b }
-    ensures value { result ≡ a *ℤ b }
-    ensures small { unsigned_abs result < 2 ^ 126 }
-{
-    i128::from(a) * i128::from(b)
-}
-
-fn difference(a: i128, b: i128) -> i128
-    requires left { unsigned_abs a < 2 ^ 126 }
-    requires right { unsigned_abs b < 2 ^ 126 }
-    ensures value { result ≡ a -ℤ b }
-    ensures small { unsigned_abs result < 2 ^ 127 }
-{
-    a - b
-}
-
-/// Part p of how much later the form of row l reaches 0 than that of row i.
-fn lead_at(
-    case: &Case,
-    tight: &NoGood,
-    fixed: &[bool],
-    dict: &Dict,
+    stage: u32,
+    goal_row: u32,
     col: u32,
     down: bool,
     i: u32,
-    l: u32,
-    p: u32,
-) -> i128
-    requires marks { AreMarks case.now tight.now fixed.now }
-    requires sized { IsSized case.now dict.now }
-    requires i { i < length dict.now.rows }
-    requires l { l < length dict.now.rows }
-    requires p { p < parts case.now }
-    ensures value { result ≡ lead case.now tight.now dict.now col down i l p }
-    ensures small { unsigned_abs result < 2 ^ 127 }
-{
-    let here = product(
-        size(dict, i, col),
-        far(case, tight, fixed, dict, col, down, l, p),
-    );
-    let there = product(
-        size(dict, l, col),
-        far(case, tight, fixed, dict, col, down, i, p),
-    );
-    difference(here, there)
-}
-
-/// Whether the form of row i reaches 0 before that of row l.
-pub fn sooner(
-    case: &Case,
-    tight: &NoGood,
-    fixed: &[bool],
-    dict: &Dict,
-    col: u32,
-    down: bool,
-    i: u32,
-    l: u32,
 ) -> bool
     requires marks { AreMarks case.now tight.now fixed.now }
-    requires sized { IsSized case.now dict.now }
+    requires placed { IsPlaced case.now dict.now }
     requires i { i < length dict.now.rows }
-    requires l { l < length dict.now.rows }
-    ensures { IsTrue result ↔ IsSooner case.now tight.now dict.now col down i l }
+    ensures { Blocks case.now tight.now stage dict.now goal_row col down i → IsTrue result }
 {
-    let count = constraints_of(case) + 1;
-    for p in 0..count {
-        let number = lead_at(case, tight, fixed, dict, col, down, i, l, p);
-        if number != 0 {
-            return number > 0;
-        }
+    match dict.basic(i) {
+        Form::Con(k) => k <= stage && !fixed[k as usize],
+        _ => false,
     }
-    false
 }
 
-/// Whether the form of row i reaches 0.
+/// Whether the form of row i, which changes at this speed, reaches 0.
+#[inline(always)]
 fn blocks(
     case: &Case,
     tight: &NoGood,
@@ -151,24 +69,166 @@ fn blocks(
     col: u32,
     down: bool,
     i: u32,
+    speed: i64,
 ) -> bool
     requires marks { AreMarks case.now tight.now fixed.now }
     requires placed { IsPlaced case.now dict.now }
     requires i { i < length dict.now.rows }
     requires basic { i < length dict.now.basic }
+    requires speed { speed ≡ rate dict.now col down i }
     ensures { IsTrue result ↔ Blocks case.now tight.now stage dict.now goal_row col down i }
 {
-    let z = dict.entry(i, col);
-    let rate_falls = if down { z > 0 } else { z < 0 };
-    let rate_rises = if down { z < 0 } else { z > 0 };
     match dict.basic(i) {
         Form::Con(k) => !fixed[k as usize]
-            && (k < stage && rate_falls || i == goal_row && k == stage && rate_rises),
+            && (k < stage && speed < 0 || i == goal_row && k == stage && speed > 0),
         _ => false,
     }
 }
 
+/// The numbers of a row whose form reaches 0.
+#[inline(always)]
+fn candidate_of(
+    case: &Case,
+    tight: &NoGood,
+    dict: &Dict,
+    stage: u32,
+    goal_row: u32,
+    col: u32,
+    down: bool,
+    i: u32,
+    speed: i64,
+) -> Candidate
+    requires i { i < length dict.now.rows }
+    requires speed { speed ≡ rate dict.now col down i }
+    requires narrow { IsNarrow speed }
+    requires blocks { Blocks case.now tight.now stage dict.now goal_row col down i }
+    ensures candidate { IsCandidate case.now tight.now stage dict.now goal_row col down result }
+    ensures row { result.row ≡ i }
+{
+    let rises = speed > 0;
+    Candidate {
+        row: i,
+        size: turned(!rises, speed),
+        far: turned(rises, dict.constant(i)),
+        rises,
+    }
+}
+
+/// Row i with its numbers, where its form reaches 0.
+#[inline(always)]
+fn candidate_at(
+    case: &Case,
+    tight: &NoGood,
+    fixed: &[bool],
+    dict: &Dict,
+    stage: u32,
+    goal_row: u32,
+    col: u32,
+    down: bool,
+    i: u32,
+) -> Option<Candidate>
+    requires marks { AreMarks case.now tight.now fixed.now }
+    requires sized { IsSized case.now dict.now }
+    requires placed { IsPlaced case.now dict.now }
+    requires i { i < length dict.now.rows }
+    ensures some { IfSome result (IsCandidate case.now tight.now stage dict.now goal_row col down) }
+    ensures row { IfSome result (λ c. c.row ≡ i) }
+    ensures none { IfNone result (Blocks case.now tight.now stage dict.now goal_row col down i → ⊥) }
+{
+    if !may_block(case, tight, fixed, dict, stage, goal_row, col, down, i) {
+        return None;
+    }
+    let speed = rate_of(dict, i, col, down);
+    if !blocks(
+        case, tight, fixed, dict, stage, goal_row, col, down, i, speed,
+    ) {
+        return None;
+    }
+    Some(candidate_of(case, tight, dict, stage, goal_row, col, down, i, speed))
+}
+
+/// How much later the form of b reaches 0, by the constants.
+#[inline(always)]
+fn lead_of(
+    case: &Case,
+    tight: &NoGood,
+    dict: &Dict,
+    stage: u32,
+    goal_row: u32,
+    col: u32,
+    down: bool,
+    c: Candidate,
+    b: Candidate,
+) -> i128
+    requires c { IsCandidate case.now tight.now stage dict.now goal_row col down c }
+    requires b { IsCandidate case.now tight.now stage dict.now goal_row col down b }
+    ensures value { result ≡ lead case.now tight.now dict.now col down c.row b.row 0 }
+    ensures small { unsigned_abs result < 2 ^ 127 }
+{
+    difference_of_products(c.size, b.far, b.size, c.far)
+}
+
+/// Whether the form of c reaches 0 before that of b.
+#[inline(always)]
+fn sooner(
+    case: &Case,
+    tight: &NoGood,
+    fixed: &[bool],
+    dict: &Dict,
+    stage: u32,
+    goal_row: u32,
+    col: u32,
+    down: bool,
+    c: Candidate,
+    b: Candidate,
+) -> bool
+    requires marks { AreMarks case.now tight.now fixed.now }
+    requires sized { IsSized case.now dict.now }
+    requires placed { IsPlaced case.now dict.now }
+    requires c { IsCandidate case.now tight.now stage dict.now goal_row col down c }
+    requires b { IsCandidate case.now tight.now stage dict.now goal_row col down b }
+    requires apart { c.row ≢ b.row }
+    ensures { IsTrue result ↔ IsSooner case.now tight.now dict.now col down c.row b.row }
+{
+    let lead = lead_of(case, tight, dict, stage, goal_row, col, down, c, b);
+    if lead != 0 {
+        return lead > 0;
+    }
+    sooner_by_eps(case, tight, fixed, dict, stage, goal_row, col, down, c, b)
+}
+
+/// The sooner of the form of c and that of b, which is the soonest of the rows before.
+#[inline(always)]
+fn sooner_of_both(
+    case: &Case,
+    tight: &NoGood,
+    fixed: &[bool],
+    dict: &Dict,
+    stage: u32,
+    goal_row: u32,
+    col: u32,
+    down: bool,
+    c: Candidate,
+    b: Candidate,
+) -> Candidate
+    requires marks { AreMarks case.now tight.now fixed.now }
+    requires sized { IsSized case.now dict.now }
+    requires placed { IsPlaced case.now dict.now }
+    requires c { IsCandidate case.now tight.now stage dict.now goal_row col down c }
+    requires b { IsCandidate case.now tight.now stage dict.now goal_row col down b }
+    requires soonest { SoonestUpto case.now tight.now stage dict.now goal_row col down c.row (Some b.row) }
+    ensures soonest { SoonestUpto case.now tight.now stage dict.now goal_row col down (c.row + 1) (Some result.row) }
+    ensures candidate { IsCandidate case.now tight.now stage dict.now goal_row col down result }
+{
+    if sooner(case, tight, fixed, dict, stage, goal_row, col, down, c, b) {
+        c
+    } else {
+        b
+    }
+}
+
 /// The sooner of the form found so far and that of row i, where it reaches 0.
+#[inline(always)]
 fn sooner_of(
     case: &Case,
     tight: &NoGood,
@@ -178,25 +238,25 @@ fn sooner_of(
     goal_row: u32,
     col: u32,
     down: bool,
-    best: Option<u32>,
+    best: Option<Candidate>,
     i: u32,
-) -> Option<u32>
+) -> Option<Candidate>
     requires marks { AreMarks case.now tight.now fixed.now }
     requires sized { IsSized case.now dict.now }
     requires placed { IsPlaced case.now dict.now }
     requires i { i < length dict.now.rows }
-    requires best { SoonestUpto case.now tight.now stage dict.now goal_row col down i best }
-    ensures { SoonestUpto case.now tight.now stage dict.now goal_row col down (i + 1) result }
+    requires best { SoonestUpto case.now tight.now stage dict.now goal_row col down i (best_row best) }
+    requires numbers { AreCandidates case.now tight.now stage dict.now goal_row col down best }
+    ensures soonest { SoonestUpto case.now tight.now stage dict.now goal_row col down (i + 1) (best_row result) }
+    ensures numbers { AreCandidates case.now tight.now stage dict.now goal_row col down result }
 {
-    if !blocks(case, tight, fixed, dict, stage, goal_row, col, down, i) {
-        return best;
-    }
-    match best {
-        None => Some(i),
-        Some(b) => if sooner(case, tight, fixed, dict, col, down, i, b) {
-            Some(i)
-        } else {
-            Some(b)
+    match candidate_at(case, tight, fixed, dict, stage, goal_row, col, down, i) {
+        None => best,
+        Some(c) => match best {
+            None => Some(c),
+            Some(b) => Some(sooner_of_both(
+                case, tight, fixed, dict, stage, goal_row, col, down, c, b,
+            )),
         },
     }
 }
@@ -218,11 +278,14 @@ pub fn leaving(
     ensures some { IfSome result (λ r. IsLeaving case.now tight.now stage dict.now goal_row col down r) }
     ensures none { IfNone result ((i : ℕ) → i < length dict.now.rows → Blocks case.now tight.now stage dict.now goal_row col down i → ⊥) }
 {
-    let mut best: Option<u32> = None;
+    let mut best: Option<Candidate> = None;
     for i in 0..dict.rows() {
         best = sooner_of(
             case, tight, fixed, dict, stage, goal_row, col, down, best, i,
         );
     }
-    best
+    match best {
+        None => None,
+        Some(c) => Some(c.row),
+    }
 }

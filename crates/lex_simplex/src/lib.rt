@@ -11,6 +11,7 @@ mod marks;
 mod next;
 mod simplex;
 mod stages;
+mod tie;
 mod values;
 mod walk;
 

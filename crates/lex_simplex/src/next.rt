@@ -39,7 +39,7 @@ pub fn row_of(case: &Case, dict: &Dict, k: u32) -> Option<u32>
 }
 
 /// Whether the form that enters goes down.
-fn is_down(case: &Case, dict: &Dict, stage: u32, row: u32, col: u32) -> bool
+pub fn is_down(case: &Case, dict: &Dict, stage: u32, row: u32, col: u32) -> bool
     requires { row < length dict.now.rows }
     ensures { result ≡ goes_down case.now stage dict.now row col }
 {
@@ -100,7 +100,7 @@ fn next_raising(case: &Case, tight: &NoGood, fixed: &[bool], dict: &Dict, stage:
     match row_of(case, dict, stage) {
         None => Next::Raised,
         Some(row) => {
-            if is_below(case, tight, fixed, dict, row) {
+            if is_below(case, tight, fixed, dict, row, stage) {
                 next_in_row(case, tight, fixed, dict, stage, row)
             } else {
                 Next::Raised

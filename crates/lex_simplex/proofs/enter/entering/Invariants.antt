@@ -1,6 +1,6 @@
 use Rattle.dict.specs.Dictionaries.{form_at, entry_at}
 use Rattle.walks.specs.Duals.{Helps}
-use Rattle.lex_simplex.specs.Marks.{FirstAmong}
+use Rattle.lex_simplex.specs.Firsts.{FirstAmong}
 use Rattle.lex_simplex.proofs.enter.entering.Given as goal
 
 abbrev pub invariant-loop-i : goal.invariant-loop-i

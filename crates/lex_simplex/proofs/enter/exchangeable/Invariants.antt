@@ -1,5 +1,5 @@
 use Rattle.walks.specs.Steps.{MayExchange}
-use Rattle.lex_simplex.specs.Marks.{FirstAmong}
+use Rattle.lex_simplex.specs.Firsts.{FirstAmong}
 use Rattle.lex_simplex.proofs.enter.exchangeable.Given as goal
 
 abbrev pub invariant-loop-i : goal.invariant-loop-i
