@@ -55,6 +55,13 @@ fn pair_before_last(choices: &[Choice]) -> u64 {
     }
 }
 
+/// Whether the walk goes back further by these choices, or as far and by no more of them.
+fn leads_further(first: &[Choice], second: &[Choice]) -> bool {
+    let pair = pair_before_last(first);
+    let other = pair_before_last(second);
+    pair < other || pair == other && first.len() <= second.len()
+}
+
 /// That of two steps that lets the walk go back further.
 fn better(log: &Log, first: Option<usize>, second: usize) -> usize
     requires first { IfSome first (λ k. k < length (no_goods log.now)) }
@@ -62,9 +69,7 @@ fn better(log: &Log, first: Option<usize>, second: usize) -> usize
     ensures { (result ≡ second) ⊎ (first ≡ Some result) }
 {
     match first {
-        Some(first)
-            if pair_before_last(choices_of(log, first))
-                < pair_before_last(choices_of(log, second)) => first,
+        Some(first) if leads_further(choices_of(log, first), choices_of(log, second)) => first,
         _ => second,
     }
 }
