@@ -19,7 +19,7 @@ use nogoods::NoGood;
 use std::alloc::{AllocError, Global};
 
 /// What is to be done with the next constraint that is looked at.
-#[derive(Clone, Copy, Debug, PartialEq, Eq)]
+#[derive(Clone, Copy)]
 pub enum Look {
     /// It is not fixed, or is passed over.
     Skip,

@@ -14,7 +14,7 @@ use nogoods::NoGood;
 /// A row whose form reaches 0, with the numbers by which it is compared: the size of its entry at
 /// the column that enters, how far its form is from 0 by the constant alone, both times the row's
 /// denominator, and whether its form rises.
-#[derive(Clone, Copy, Debug, PartialEq, Eq)]
+#[derive(Clone, Copy)]
 pub struct Candidate {
     pub row: u32,
     pub size: i64,

@@ -16,7 +16,7 @@ use lpcc_case::Case;
 use nogoods::NoGood;
 
 /// What comes next in a stage.
-#[derive(Clone, Copy, Debug, PartialEq, Eq)]
+#[derive(Clone, Copy)]
 pub enum Next {
     Raised,
     Stuck(u32),

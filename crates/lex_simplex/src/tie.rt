@@ -19,7 +19,7 @@ use lpcc_case::{Case, Form};
 use nogoods::NoGood;
 
 /// A constraint whose eps tells two rows apart, and whether the first of them is the sooner by it.
-#[derive(Clone, Copy, Debug, PartialEq, Eq)]
+#[derive(Clone, Copy)]
 pub struct Earliest {
     constraint: u32,
     sooner: bool,

@@ -36,7 +36,7 @@ impl Model for Walk {
 }
 
 /// Where a walk ends.
-#[derive(Clone, Copy, Debug, PartialEq, Eq)]
+#[derive(Clone, Copy)]
 pub enum End {
     /// The fixed constraint of this row cannot be exchanged, and its constant is not 0.
     Inconsistent(u32),
@@ -51,7 +51,7 @@ pub enum End {
 }
 
 /// What became of a round of a stage.
-#[derive(Clone, Copy, Debug, PartialEq, Eq)]
+#[derive(Clone, Copy)]
 pub enum Round {
     /// A pivot was made.
     Went,
