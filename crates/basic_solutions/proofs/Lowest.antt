@@ -1,17 +1,17 @@
 -- The multipliers of a row have no common divisor, and the cuts that rows give.
-use Rattle.std.proofs.Common.{ℕ, zero, suc, ◌+◌, ◌*◌, ◌/◌, ◌^◌, ◌<◌, ◌≤◌, ◌≡◌, ◌∙◌, refl, sym, ap, subst, arith, ℤ, pos, negsuc, ◌+ℤ◌, ◌-ℤ◌, ◌*ℤ◌, neg_ℤ, ◌<ℤ◌, ◌≤ℤ◌, List, [], ◌∷◌, length, map, Bool, true, false, cond, eqb, not, nat_lt, ◌⊎◌, inl, inr}
+use Rattle.std.proofs.Common.{ℕ, suc, ◌*◌, ◌/◌, ◌<◌, ◌≡◌, ◌∙◌, refl, sym, ap, subst, arith, ℤ, pos, negsuc, ◌+ℤ◌, ◌-ℤ◌, ◌*ℤ◌, neg_ℤ, ◌<ℤ◌, List, [], ◌∷◌, length, Bool, true, false, cond, eqb, not, ◌⊎◌, inl, inr}
 use Prim.Native.Nat.{◌∣◌}
 use Rattle.std.specs.Prelude.{unsigned_abs}
 use Rattle.std.specs.List.{AllByRecursion}
-use Rattle.std.proofs.lemmas.Bool.{lt-ltb, le-ltb}
+use Rattle.std.proofs.lemmas.Bool.{lt-ltb}
 use Rattle.std.proofs.lemmas.Int.{ints, unsigned_abs-mul}
 use Rattle.std.proofs.lemmas.Nat.Gcd.{dvd-zero}
 use Rattle.std.proofs.Math.IntN.{zero-*ℤ}
 use Rattle.std.proofs.Math.Nat.{div-mul_cancel, dvd-mul_left}
-use Rattle.lp_base.proofs.Ring.{mul_add_right, mul_comm, mul_swap}
+use Rattle.lp_base.proofs.Ring.{mul_add_right, mul_swap}
 use Rattle.nogoods.specs.declared.choice.Choice.{Choice}
 use Rattle.lpcc_case.specs.declared.form.Form.{Form}
-use Rattle.lpcc_case.specs.declared.form.Form.TheVariants.{Col, Con, Cost}
+use Rattle.lpcc_case.specs.declared.form.Form.TheVariants.{Con, Cost}
 use Rattle.lpcc_case.specs.declared.point.Point.{Point as Numbers}
 use Rattle.lpcc_case.specs.Instance.{Instance}
 use Rattle.lpcc_case.specs.Pieces.{NamesPairs}
@@ -19,7 +19,7 @@ use Rattle.lpcc_case.specs.Points.{coefficient}
 use Rattle.cuts.specs.declared.cut.Cut.{Cut}
 use Rattle.cuts.specs.declared.cut.Cut.TheVariants.{Ray, Point}
 use Rattle.dict.specs.Terms.{weigh, AreTerms}
-use Rattle.dict.specs.Equations.{Equation, Divides, DividesEach, Holds, IsReduced}
+use Rattle.dict.specs.Equations.{Equation, DividesEach, Holds, IsReduced}
 use Rattle.dict.specs.Exchanges.{turn}
 use Rattle.dict.specs.Dictionaries.{Dictionary, IsDictionary, row_at, form_at, entry_at}
 use Rattle.dict.specs.Forms.{affine_of}

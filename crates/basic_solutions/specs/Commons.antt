@@ -1,6 +1,7 @@
 -- Common multiples and common divisors of numbers.
 use Rattle.std.specs.Prelude.{◌<◌, ◌≤◌, ◌+◌, ◌*◌, ◌^◌, ◌⊎◌, ℕ}
 use Prim.Native.Nat.{◌∣◌}
+use Rattle.lp_base.specs.Numbers.{narrow_bound}
 
 -- m is the least common multiple of a and b
 abbrev pub IsLcm : ℕ → ℕ → ℕ → Type 0
@@ -30,8 +31,8 @@ pub record IsTooLarge (n : ℕ) (q : ℕ → ℕ) : Type 0 where
 
 -- each common denominator d of the fractions p / q, or one of the numbers over it, is not narrow
 abbrev pub IsWideOver : ℕ → (ℕ → ℕ) → (ℕ → ℕ) → Type 0
-IsWideOver n p q = (d : ℕ) → 0 < d → ((c : ℕ) → c < n → q c ∣ p c * d) → (2 ^ 63 ≤ d) ⊎ ((c : ℕ) × (c < n) × (2 ^ 63 * q c ≤ p c * d))
+IsWideOver n p q = (d : ℕ) → 0 < d → ((c : ℕ) → c < n → q c ∣ p c * d) → (narrow_bound ≤ d) ⊎ ((c : ℕ) × (c < n) × (narrow_bound * q c ≤ p c * d))
 
 -- where a / b times the fractions p / q are whole numbers, one of them is not narrow
 abbrev pub IsWideAlong : ℕ → (ℕ → ℕ) → (ℕ → ℕ) → Type 0
-IsWideAlong n p q = (a b : ℕ) → 0 < a → 0 < b → ((c : ℕ) → c < n → b * q c ∣ p c * a) → (c : ℕ) × (c < n) × (2 ^ 63 * (b * q c) ≤ p c * a)
+IsWideAlong n p q = (a b : ℕ) → 0 < a → 0 < b → ((c : ℕ) → c < n → b * q c ∣ p c * a) → (c : ℕ) × (c < n) × (narrow_bound * (b * q c) ≤ p c * a)

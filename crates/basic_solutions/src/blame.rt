@@ -1,5 +1,6 @@
 //! The choices that multipliers need.
-ghost use Rattle.std.specs.Prelude.{◌≡◌, ◌<◌, ◌≤◌, ◌^◌, ◌++◌, ◌∷◌, [], ℕ, ◌&&◌, not, int_lt, pos, length, slice_index_or, slice_set, false, true, IfOk, OnOk, IsTrue, if◌then◌else◌};
+ghost use Rattle.std.specs.Prelude.{◌≡◌, ◌<◌, ◌≤◌, ◌++◌, ◌∷◌, [], ℕ, ◌&&◌, not, int_lt, pos, length, slice_index_or, slice_set, false, true, IfOk, OnOk, IsTrue, if◌then◌else◌};
+ghost use Rattle.lp_base.specs.Numbers.{narrow_bound};
 ghost use Rattle.lpcc_case.specs.Pieces.{NamesPairs};
 ghost use Rattle.lpcc_case.specs.Points.{coefficient};
 ghost use Rattle.lpcc_case.specs.Instance.{chosen_number};
@@ -13,7 +14,7 @@ use std::alloc::{AllocError, Global};
 
 /// Marks the constraints with a negative multiplier.
 fn mark_negative(mult: &[(u32, i64)], marks: &mut [bool])
-    requires terms { AreTerms (2 ^ 63) 0 (length marks.old) mult.now }
+    requires terms { AreTerms (narrow_bound) 0 (length marks.old) mult.now }
     requires unmarked { (k : ℕ) → slice_index_or marks.old k false ≡ false }
     ensures size { length marks.new ≡ length marks.old }
     ensures marks { (k : ℕ) → k < length marks.old → slice_index_or marks.new k false ≡ int_lt (coefficient mult.now k) (pos 0) }
@@ -48,7 +49,7 @@ fn blamed_choices(
     choices: &[Choice],
 ) -> Result<Vec<Choice>, AllocError>
     requires named { NamesPairs case.now choices.now }
-    requires terms { AreTerms (2 ^ 63) 0 (length case.now.constraints) mult.now }
+    requires terms { AreTerms (narrow_bound) 0 (length case.now.constraints) mult.now }
     ensures { IfOk result (λ out. out.items ≡ blamed case.now mult.now choices.now) }
 {
     let mut marks = vec![in alloc; false; case.constraints().len()]?;
@@ -69,7 +70,7 @@ pub fn blamed_of(
     tight: &NoGood,
 ) -> Result<NoGood, AllocError>
     requires named { NamesPairs case.now tight.now }
-    requires terms { AreTerms (2 ^ 63) 0 (length case.now.constraints) mult.now }
+    requires terms { AreTerms (narrow_bound) 0 (length case.now.constraints) mult.now }
     ensures { IfOk result (λ ng. ng ≡ blamed case.now mult.now tight.now) }
 {
     let choices = blamed_choices(alloc, case, mult, tight.choices())?;

@@ -2,15 +2,13 @@
 ghost use Rattle.std.specs.Prelude.{◌≡◌, ◌<◌, ◌≤◌, ◌*◌, ◌^◌, ◌*ℤ◌, ◌++◌, ◌∷◌, [], ℕ, pos, length, unsigned_abs, IfOk, IfSome, IfNone, OnOk};
 ghost use Rattle.std.specs.Int.{IsGcd};
 ghost use Prim.Native.Nat.{◌∣◌};
-ghost use Rattle.lp_base.specs.Numbers.{IsNarrow};
+ghost use Rattle.lp_base.specs.Numbers.{IsNarrow, narrow_bound};
 ghost use Rattle.basic_solutions.specs.Commons.{IsGreatestCommon, IsLcm, IsLeastCommon, IsTooLarge, IsWideAlong, IsWideOver};
 ghost use Rattle.basic_solutions.specs.Readings.{AreAlong, AreNarrowFractions, AreNumbersUpto, AreOver, den_in, size_in, value_in};
 
+use lp_base::LARGEST_NARROW;
 use lp_nums::{Frac, gcd};
 use std::alloc::{AllocError, Global};
-
-/// The largest size of a narrow number.
-const MOST_NARROW: u128 = 0x7fff_ffff_ffff_ffff;
 
 /// Past this a common denominator is not kept: a direction over it has a number that is not narrow.
 const MOST_DENOMINATOR: u128 = (1 << 126) - 1;
@@ -28,7 +26,7 @@ fn lcm_of(a: u128, b: u128) -> Option<u128>
     requires first { 0 < a }
     requires second { 0 < b }
     requires small { a < 2 ^ 126 }
-    requires narrow { b < 2 ^ 63 }
+    requires narrow { b < narrow_bound }
     ensures lcm { IfSome result (λ m. IsLcm a b m) }
     ensures positive { IfSome result (λ m. 0 < m) }
     ensures small { IfSome result (λ m. m < 2 ^ 126) }
@@ -87,15 +85,15 @@ fn common_numerator(values: &[Frac]) -> u128
 
 /// A product, where it is narrow.
 fn narrow_product(n: u128, m: u128) -> Option<i64>
-    requires { n < 2 ^ 63 }
+    requires { n < narrow_bound }
     ensures value { IfSome result (λ x. x ≡ pos (n * m)) }
     ensures narrow { IfSome result (λ x. IsNarrow x) }
-    ensures wide { IfNone result (2 ^ 63 ≤ n * m) }
+    ensures wide { IfNone result (narrow_bound ≤ n * m) }
 {
     if n == 0 {
         return Some(0);
     }
-    if m > MOST_NARROW || n * m > MOST_NARROW {
+    if m > LARGEST_NARROW || n * m > LARGEST_NARROW {
         return None;
     }
     Some((n * m) as i64)
@@ -109,7 +107,7 @@ fn number_over(value: Frac, g: u128, d: u128) -> Option<i64>
     requires multiple { unsigned_abs value.den ∣ d }
     ensures value { IfSome result (λ x. (x *ℤ pos g) *ℤ value.den ≡ value.num *ℤ pos d) }
     ensures narrow { IfSome result (λ x. IsNarrow x) }
-    ensures wide { IfNone result (2 ^ 63 * (g * unsigned_abs value.den) ≤ unsigned_abs value.num * d) }
+    ensures wide { IfNone result (narrow_bound * (g * unsigned_abs value.den) ≤ unsigned_abs value.num * d) }
 {
     let size = narrow_product(
         value.num().unsigned_abs() / g,
@@ -147,7 +145,7 @@ fn numbers_over(
     requires divides { (c : ℕ) → c < length values.now → g ∣ size_in values.now c }
     requires multiple { (c : ℕ) → c < length values.now → den_in values.now c ∣ d }
     ensures numbers { IfOk result (λ found. IfSome found (λ xs. AreNumbersUpto values.now g d xs.items (length values.now))) }
-    ensures wide { IfOk result (λ found. IfNone found ((c : ℕ) × (c < length values.now) × (2 ^ 63 * (g * den_in values.now c) ≤ size_in values.now c * d))) }
+    ensures wide { IfOk result (λ found. IfNone found ((c : ℕ) × (c < length values.now) × (narrow_bound * (g * den_in values.now c) ≤ size_in values.now c * d))) }
 {
     let mut numbers: Vec<i64> = Vec::with_capacity(alloc, values.len())?;
     for i in 0..values.len() {
@@ -173,7 +171,7 @@ pub fn over_common_denominator(
         Some(d) => d,
         None => return Ok(None),
     };
-    if d > MOST_NARROW {
+    if d > LARGEST_NARROW {
         return Ok(None);
     }
     match numbers_over(alloc, values, 1, d)? {

@@ -1,5 +1,5 @@
-use Rattle.std.proofs.Common.{◌≡◌, ◌∙◌, refl, ap, rules, ℤ, length, to_z, of_z, FitsSigned}
-use mir.Syntax.{w64, w128}
+use Rattle.std.proofs.Common.{◌∙◌, refl, ap, rules, length, FitsSigned}
+use mir.Syntax.{w128}
 use Rattle.std.proofs.lemmas.Int.{to_z-of_z}
 use Rattle.lp_base.proofs.Machine.{narrow_again}
 use Rattle.basic_solutions.proofs.Lowest.{cost_cut}

@@ -1,4 +1,4 @@
-use Rattle.std.proofs.Common.{ℕ, ◌+◌, ◌<◌, ◌≡◌, ◌∙◌, sym, subst, arith, List, length}
+use Rattle.std.proofs.Common.{ℕ, ◌<◌, ◌≡◌, ◌∙◌, sym, subst, arith, List, length}
 use Rattle.lpcc_case.specs.declared.form.Form.{Form}
 use Rattle.dict.specs.Dictionaries.{form_at}
 use Rattle.walks.specs.Duals.{IsNamed}
