@@ -1,10 +1,8 @@
 //! The choices that multipliers need.
-ghost use Rattle.std.specs.Prelude.{◌≡◌, ◌<◌, ◌≤◌, ◌++◌, ◌∷◌, [], ℕ, ◌&&◌, not, int_lt, pos, length, slice_index_or, slice_set, false, true, IfOk, OnOk, IsTrue, if◌then◌else◌};
+ghost use Rattle.std.specs.Prelude.{◌≡◌, ◌<◌, ◌++◌, ◌∷◌, [], ℕ, int_lt, pos, length, slice_index_or, slice_set, false, IfOk, OnOk, if◌then◌else◌};
 ghost use Rattle.lp_base.specs.Numbers.{narrow_bound};
 ghost use Rattle.lpcc_case.specs.Pieces.{NamesPairs};
 ghost use Rattle.lpcc_case.specs.Points.{coefficient};
-ghost use Rattle.lpcc_case.specs.Instance.{chosen_number};
-ghost use Rattle.nogoods.specs.Choices.{pairs_ascend};
 ghost use Rattle.dict.specs.Terms.{AreTerms};
 ghost use Rattle.walks.specs.Duals.{blamed};
 

@@ -1,5 +1,5 @@
 //! The nonbasic forms of a dictionary, in their order.
-ghost use Rattle.std.specs.Prelude.{◌≡◌, ◌<◌, ◌+◌, ◌++◌, ◌∷◌, [], ℕ, length, map, All, IfOk, OnOk, IsTrue, IsPermutation};
+ghost use Rattle.std.specs.Prelude.{◌≡◌, ◌<◌, ◌+◌, ◌++◌, ◌∷◌, [], ℕ, length, map, IfOk, OnOk, IsTrue, IsPermutation};
 ghost use Rattle.lp_base.specs.Ascending.{ascends_by};
 ghost use Rattle.dict.specs.Dictionaries.{form_at, nonbasic_after};
 ghost use Rattle.walks.specs.Duals.{IsNamed, IsPlaced};

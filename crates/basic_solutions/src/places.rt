@@ -1,5 +1,5 @@
 //! Where the constraints stand among the nonbasic forms, and what a row has of each.
-ghost use Rattle.std.specs.Prelude.{◌≡◌, ◌<◌, ◌≤◌, ◌↔◌, ℕ, length, slice_index_or, slice_set, IsTrue, IfOk};
+ghost use Rattle.std.specs.Prelude.{◌≡◌, ◌<◌, ◌↔◌, length, IsTrue, IfOk};
 ghost use Rattle.lp_base.specs.Numbers.{IsNarrow};
 ghost use Rattle.lpcc_case.specs.declared.form.Form.TheVariants as form;
 ghost use Rattle.dict.specs.Dictionaries.{form_at, row_at};

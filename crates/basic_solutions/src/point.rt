@@ -1,5 +1,5 @@
 //! The basic point of a dictionary.
-ghost use Rattle.std.specs.Prelude.{◌≡◌, ◌∷◌, ◌<◌, ◌<ℤ◌, ℕ, ℤ, pos, List, IfOk, IfSome, IfNone};
+ghost use Rattle.std.specs.Prelude.{◌∷◌, ◌<◌, ◌<ℤ◌, ℕ, ℤ, pos, List, IfOk, IfSome, IfNone};
 ghost use Rattle.lpcc_case.specs.NarrowPoints.{IsPointOf};
 ghost use Rattle.dict.specs.Equations.{Equation};
 ghost use Rattle.dict.specs.Forms.{IsDictionaryAt, IsWideDictionary, with_rows};

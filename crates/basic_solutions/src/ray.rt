@@ -1,5 +1,5 @@
 //! The direction of a column of a dictionary.
-ghost use Rattle.std.specs.Prelude.{◌≡◌, ◌<◌, ℕ, ℤ, List, length, IfOk, IfSome, IfNone};
+ghost use Rattle.std.specs.Prelude.{◌<◌, ℕ, ℤ, List, length, IfOk, IfSome, IfNone};
 ghost use Rattle.lpcc_case.specs.NarrowPoints.{AreNumbersOf};
 ghost use Rattle.dict.specs.Equations.{Equation};
 ghost use Rattle.dict.specs.Forms.{IsDictionaryAt, IsWideDictionary, with_rows};
