@@ -3,3 +3,5 @@ pub mod SearchLaws
 pub mod DrawLaws
 pub mod SettleLaws
 pub mod FormLaws
+pub mod LineLaws
+pub mod CloseLaws

@@ -1,2 +1,4 @@
 pub mod Desks
 pub mod Searches
+pub mod Lines
+pub mod Stuck

@@ -6,13 +6,13 @@ ghost use Rattle.derivation.specs.Logs.{no_goods};
 ghost use Rattle.search.specs.FirstPieces.{AllBlocked, IsFirst};
 ghost use Rattle.play.specs.Parts.{barring, flight_of, start, taken};
 ghost use Rattle.play.specs.Steps.{set_aside, take_cut, take_outcome};
-ghost use Rattle.play.specs.Endings.{IsEnding};
 ghost use Rattle.play.specs.Lawful.{IsFree, MayConclude};
-ghost use Rattle.desk.specs.Desks.{Draws, EndingKeepsForm, IsOver, CutBars, IsBack, IsCarried, IsSettled, Learns, MayBeSettled, Settles, Shows, best_in, is_unbounded, outcome_of};
+ghost use Rattle.desk.specs.Desks.{Draws, CutBars, IsBack, IsCarried, IsSettled, Learns, MayBeSettled, Settles, Shows, best_in, is_unbounded, outcome_of};
 ghost use Rattle.desk.specs.declared.answer.Draw.TheVariants as draw;
 
 use crate::Draw;
-use crate::look::{KeptSearch, copy_piece, look};
+use crate::copies::copy_piece;
+use crate::look::{KeptSearch, look};
 use crate::settle::{absorb, fly, land, lowered};
 use cuts::Cut;
 use derivation::Log;
@@ -27,14 +27,14 @@ use std::marker::Model;
 /// draws, the best point, a kept unbounded outcome and the verdict. Contracts see these parts.
 #[derive(Drop)]
 pub struct DeskPart {
-    absorbed: Vec<Cut>,
-    log: Log,
-    flight: Vec<Ticket>,
-    aside: Vec<Aside>,
-    drawn: u64,
-    best: Option<Point>,
-    unbounded: Option<Direction>,
-    verdict: Option<VerdictKind>,
+    pub(crate) absorbed: Vec<Cut>,
+    pub(crate) log: Log,
+    pub(crate) flight: Vec<Ticket>,
+    pub(crate) aside: Vec<Aside>,
+    pub(crate) drawn: u64,
+    pub(crate) best: Option<Point>,
+    pub(crate) unbounded: Option<Direction>,
+    pub(crate) verdict: Option<VerdictKind>,
     /// The pieces in flight and those set aside, as a search takes them.
     blocked: PieceSet,
     /// The search that goes on.
@@ -73,7 +73,12 @@ impl DeskPart {
     }
 
     /// What a search finds. It may learn steps, also where memory is short.
-    fn search(&mut self, alloc: Global, case: &Case, options: &Options) -> Result<Found, AllocError>
+    pub(crate) fn search(
+        &mut self,
+        alloc: Global,
+        case: &Case,
+        options: &Options,
+    ) -> Result<Found, AllocError>
         requires carried { IsCarried case.now options.now self.old }
         requires waiting { self.old.verdict ≡ None }
         requires settled { self.old.unbounded ≡ None }
@@ -392,18 +397,6 @@ impl DeskPart {
             self.verdict = Some(VerdictKind::Unbounded);
         }
         Ok(())
-    }
-}
-
-impl DeskPart {
-    /// The ending of the record. Without memory the part is spent.
-    pub fn close(self, _alloc: Global, case: &Case, options: &Options) -> Result<Ending, AllocError>
-        requires carried { IsCarried case.now options.now self }
-        requires over { IsOver case.now options.now self }
-        ensures ending { IfOk result (IsEnding case.now options.now self) }
-        ensures form { IfOk result EndingKeepsForm }
-    {
-        Err(AllocError)
     }
 }
 

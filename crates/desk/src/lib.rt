@@ -3,10 +3,15 @@
 #![tactic(auto)]
 
 mod answer;
+mod closing;
+mod copies;
 mod desk;
 mod desk_part;
+mod lines;
 mod look;
+mod points;
 mod settle;
+mod stuck;
 
 pub use answer::Draw;
 pub use desk::Desk;

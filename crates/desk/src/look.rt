@@ -1,5 +1,5 @@
 //! The search for the next piece: the one place that knows how the search is called.
-ghost use Rattle.std.specs.Prelude.{◌≡◌, ◌≤◌, All, IfOk};
+ghost use Rattle.std.specs.Prelude.{◌≤◌, All, IfOk};
 ghost use Rattle.derivation.specs.HintRuns.{NamesBelow};
 ghost use Rattle.derivation.specs.Logs.{no_goods};
 ghost use Rattle.search.specs.FirstPieces.{IsFound, HasEmpty};
@@ -8,9 +8,7 @@ ghost use Rattle.search.specs.Kept.{Keeps};
 ghost use Rattle.desk.specs.Searches.{GoesOn};
 
 use derivation::Log;
-use lp_base::Sequence;
 use lpcc_case::MOST_PAIRS;
-use nogoods::Piece;
 use search::{Found, PieceSet, Search};
 use std::alloc::{AllocError, Global};
 
@@ -19,14 +17,6 @@ use std::alloc::{AllocError, Global};
 pub struct KeptSearch {
     pub pairs: u32,
     pub search: Search,
-}
-
-/// An equal piece.
-pub fn copy_piece(alloc: Global, piece: &Piece) -> Result<Piece, AllocError>
-    ensures { IfOk result (λ made. made ≡ piece.now) }
-{
-    let sides = Vec::from_slice(alloc, piece.sides())?;
-    Ok(Piece::of_sides(Sequence::of_vec(sides)))
 }
 
 /// The kept search, or a new one where there is none over so many pairs.

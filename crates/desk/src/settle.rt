@@ -6,7 +6,7 @@ ghost use Rattle.derivation.specs.declared.step.Step.TheVariants as step;
 ghost use Rattle.play.specs.Parts.{flight_of, without};
 ghost use Rattle.play.specs.Points.{lowered};
 
-use crate::look::copy_piece;
+use crate::copies::{copy_no_good, copy_piece};
 use cuts::Cut;
 use derivation::Log;
 use lpcc_case::{Point, lower};
@@ -15,17 +15,8 @@ use play::Ticket;
 use search::PieceSet;
 use std::alloc::{AllocError, Global};
 
-/// An equal no-good.
-fn copy_no_good(alloc: Global, ng: &NoGood) -> Result<NoGood, AllocError>
-    ensures { IfOk result (λ made. made ≡ ng.now) }
-{
-    match NoGood::from_choices(alloc, ng.choices())? {
-        Some(made) => Ok(made),
-        None => Err(AllocError),
-    }
-}
-
-fn no_good(cut: &Cut) -> &NoGood
+/// The no-good of a cut.
+pub fn no_good(cut: &Cut) -> &NoGood
     ensures { result.now ≡ no_good_of cut.now }
 {
     match cut {
