@@ -1,7 +1,9 @@
 -- The text of a generated deck: its numbers come from draws, and each is given by the number of its draw.
 use Rattle.std.specs.Prelude.{◌==◌, ◌+◌, ◌*◌, ◌%◌, ◌≤◌, ℕ, zero, suc, List, [], ◌++◌, if◌then◌else◌, codes}
 use Rattle.std.specs.Fmt.{decimal}
+use Rattle.lp_base.specs.declared.limits.TheConstants.{MOST_COLUMNS, MOST_ENTRIES, MOST_PAIRS}
 use Rattle.deck_gen.specs.declared.sizes.Sizes.{Sizes}
+use Rattle.deck_gen.specs.declared.sizes.TheConstants.{MOST_GENERATED_ROWS}
 
 -- ---- the draws
 
@@ -87,12 +89,12 @@ deck_text z = name_line z ++ rows_section z ++ columns_section z ++ right_sides_
 
 -- ---- the range
 
--- at least one column and one row; two columns for each pair; the costs and the coefficients are no more entries than a deck may have
+-- at least one column and one row; two columns for each pair; no more columns, pairs and entries than a deck may have, the costs being entries too
 pub record IsInRange (columns rows pairs : ℕ) : Type 0 where
   pub some_columns : 1 ≤ columns
-  pub few_columns : columns ≤ 1000
+  pub few_columns : columns ≤ MOST_COLUMNS
   pub some_rows : 1 ≤ rows
-  pub few_rows : rows ≤ 1000
-  pub few_pairs : pairs ≤ 512
+  pub few_rows : rows ≤ MOST_GENERATED_ROWS
+  pub few_pairs : pairs ≤ MOST_PAIRS
   pub own_columns : 2 * pairs ≤ columns
-  pub few_entries : rows * columns + columns ≤ 200000
+  pub few_entries : rows * columns + columns ≤ MOST_ENTRIES
