@@ -14,7 +14,7 @@ use Rattle.cert_text.specs.declared.read.Kind.{Kind}
 use Rattle.cert_text.specs.declared.read.Kind.TheVariants as kinds
 use Rattle.cert_text.specs.Certs.{IsLine, KeepsForm, lines_of}
 use Rattle.cert_text.specs.Spelling.{Word, point_words, value_words, piece_words, ray_words, line_words, end_words, log_words, cert_words, cert_lines, line_bytes, spelling}
-use Rattle.cert_text.specs.Parts.{parts}
+use Rattle.cert_text.specs.Splits.{split}
 use Rattle.cert_text.specs.Lines.{is_comment, lines_among, tail_among, is_content, is_cut}
 use Rattle.cert_text.specs.Faults.{words, is_last}
 use Rattle.cert_text.specs.Reading.{◌>>=◌, Reading, point_at, value_at, piece_at, ray_at, line_at, end_at}
@@ -361,7 +361,7 @@ among (l ∷ k ∷ ls) h =
     let rest = lines_among ((k ∷ ls) ++ [] ∷ []) in
     (ap (λ (t : Bool). cond t rest (l ∷ rest)) (All-head (λ x. is_comment x ≡ false) l (k ∷ ls) h) ∙ ap (λ (x : List (List ℕ)). l ∷ x) next.0, next.1)
 
-parts_of : (c : Cert) → parts 10 (spelling c) ≡ cert_lines c ++ [] ∷ []
+parts_of : (c : Cert) → split 10 (spelling c) ≡ cert_lines c ++ [] ∷ []
 parts_of c = lines_joined (cert_lines c) (All-map IsInLine line_bytes (cert_words c) (λ i d lt. line_in_line (get_or (cert_words c) i d) (good_cert c i d lt).0))
 
 pub spelling_spells : (c : Cert) → KeepsForm c → length (lines_of c) < 2 ^ 64 → Spells (spelling c) c

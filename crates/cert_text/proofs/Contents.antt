@@ -3,7 +3,7 @@ use Rattle.std.proofs.Common.{◌≡◌, ℕ, ◌+◌, ◌-◌, ◌<◌, ◌≤�
 use Rattle.std.specs.Prelude.{position}
 use Rattle.std.proofs.lemmas.List.Splits.{length-slice_split}
 use Rattle.std.proofs.lemmas.List.{take_rest, length-drop}
-use Rattle.cert_text.specs.Parts.{parts}
+use Rattle.cert_text.specs.Splits.{split}
 use Rattle.cert_text.specs.Lines.{is_comment, lines_among, tail_among, is_content, content, is_cut}
 use Rattle.cert_text.proofs.Cuts.{parts_found, parts_last}
 
@@ -22,14 +22,14 @@ same_tail line (p ∷ ps) h = refl
 abbrev behind_lf : List ℕ → List ℕ
 behind_lf back = take (length back - 1) (drop 1 back)
 
-some_parts : (text : List ℕ) → 0 < length (parts 10 text)
+some_parts : (text : List ℕ) → 0 < length (split 10 text)
 some_parts text = omega (arith, length-slice_split (λ b. eqb b 10) text)
 
 pub content_found : (text line back : List ℕ) (at : ℕ) → position (λ b. eqb b 10) text ≡ Some at → line ≡ take at text → back ≡ drop at text → content text ≡ with_line line (content (behind_lf back))
-content_found text line back at e el eb = ap lines_among (parts_found 10 text line back at e el eb) ∙ more_lines line (parts 10 (behind_lf back)) (some_parts (behind_lf back))
+content_found text line back at e el eb = ap lines_among (parts_found 10 text line back at e el eb) ∙ more_lines line (split 10 (behind_lf back)) (some_parts (behind_lf back))
 
 pub cut_found : (text line back : List ℕ) (at : ℕ) → position (λ b. eqb b 10) text ≡ Some at → line ≡ take at text → back ≡ drop at text → is_cut text ≡ is_cut (behind_lf back)
-cut_found text line back at e el eb = ap is_content (ap tail_among (parts_found 10 text line back at e el eb) ∙ same_tail line (parts 10 (behind_lf back)) (some_parts (behind_lf back)))
+cut_found text line back at e el eb = ap is_content (ap tail_among (parts_found 10 text line back at e el eb) ∙ same_tail line (split 10 (behind_lf back)) (some_parts (behind_lf back)))
 
 pub content_none : (text : List ℕ) → position (λ b. eqb b 10) text ≡ None → content text ≡ []
 content_none text e = ap lines_among (parts_last 10 text e)

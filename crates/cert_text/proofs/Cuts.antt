@@ -8,14 +8,14 @@ use Rattle.std.proofs.lemmas.Option.{cond_some}
 use Rattle.std.proofs.lemmas.List.Sums.{fails_before_first}
 use Rattle.std.proofs.lemmas.List.Splits.{slice_split_first, slice_split_none}
 use Rattle.std.proofs.lemmas.List.{take_rest, drop-drop}
-use Rattle.cert_text.specs.Parts.{parts, parts_left}
+use Rattle.cert_text.specs.Splits.{split, split_left}
 
 cond_none : (b : Bool) (i : ℕ) → cond b (Some i) None ≡ None → b ≡ false
 cond_none true i e = absurd cc
 cond_none false i e = refl
 
 pub parts_found : (separator : ℕ) (text part rest : List ℕ) (at : ℕ) → position (λ b. eqb b separator) text ≡ Some at → part ≡ take at text → rest ≡ drop at text
-    → parts separator text ≡ part ∷ parts separator (take (length rest - 1) (drop 1 rest))
+    → split separator text ≡ part ∷ split separator (take (length rest - 1) (drop 1 rest))
 parts_found separator text part rest at e ep er =
     let p : ℕ → Bool = λ b. eqb b separator in
     let f = cond_some (ltb (position_or_len p text) (length text)) (position_or_len p text) at e in
@@ -24,7 +24,7 @@ parts_found separator text part rest at e ep er =
     ap (λ (i : ℕ). drop (i + 1) text) f.1 ∙ sym (take_rest rest 1 ∙ ap (λ (x : List ℕ). drop 1 x) er ∙ drop-drop 1 at text) in
     front ∙ ap (λ (x : List ℕ). x ∷ slice_split p (drop (position_or_len p text + 1) text)) (ap (λ (i : ℕ). take i text) f.1 ∙ sym ep) ∙ ap (λ (x : List ℕ). part ∷ slice_split p x) behind
 
-pub parts_last : (separator : ℕ) (text : List ℕ) → position (λ b. eqb b separator) text ≡ None → parts separator text ≡ text ∷ []
+pub parts_last : (separator : ℕ) (text : List ℕ) → position (λ b. eqb b separator) text ≡ None → split separator text ≡ text ∷ []
 parts_last separator text e =
     let p : ℕ → Bool = λ b. eqb b separator in
     let none = cond_none (ltb (position_or_len p text) (length text)) (position_or_len p text) e in
@@ -32,5 +32,5 @@ parts_last separator text e =
     slice_split_none p text (λ k d lt. fails_before_first p text k d (omega arith))
 
 -- what is left before the first part is taken
-pub left_is : (separator : ℕ) (now all : List (List ℕ)) (held : Option (Bor (List ℕ))) (rest : Bor (List ℕ)) → parts_left separator held ≡ now → held ≡ Some rest → parts separator rest.now ≡ all → now ≡ all
-left_is separator now all held rest v h e = sym v ∙ ap (parts_left separator) h ∙ e
+pub left_is : (separator : ℕ) (now all : List (List ℕ)) (held : Option (Bor (List ℕ))) (rest : Bor (List ℕ)) → split_left separator held ≡ now → held ≡ Some rest → split separator rest.now ≡ all → now ≡ all
+left_is separator now all held rest v h e = sym v ∙ ap (split_left separator) h ∙ e

@@ -5,7 +5,6 @@ pub mod Caps
 pub mod Going
 pub mod Ascents
 pub mod Logs
-pub mod Pushes
 pub mod Numbers
 pub mod WordLists
 pub mod Forms

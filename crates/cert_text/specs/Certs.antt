@@ -1,7 +1,9 @@
 -- Certificates, and the rules of their form.
 use Rattle.std.specs.Prelude.{◌≢◌, ◌<◌, ◌≤◌, ◌^◌, ◌-◌, ◌≤ℤ◌, ℕ, ℤ, pos, List, [], All, IsTrue, unsigned_abs}
 use Rattle.lp_base.specs.Ascending.{ascends_by}
+pub use Rattle.lp_base.specs.Ascending.{number_of}
 use Rattle.lp_base.specs.Numbers.{IsNarrow}
+use Rattle.lp_base.specs.declared.limits.TheConstants.{LARGEST_WORD, MOST_PAIRS}
 use Rattle.nogoods.specs.declared.choice.Choice.{Choice}
 use Rattle.nogoods.specs.Choices.{pairs_ascend}
 use Rattle.cert_text.specs.declared.cert.Cert.{Cert}
@@ -21,13 +23,10 @@ lines_of (Optimal point z lines) = lines
 lines_of (Infeasible lines) = lines
 lines_of (Unbounded piece point ray) = []
 
-abbrev pub number_of : ℕ × ℤ → ℕ
-number_of t = t.0
-
 -- a choice names one of at most 512 pairs, and the pairs ascend strictly
 pub record IsNoGood (ng : List Choice) : Type 0 where
   pub ascending : IsTrue (pairs_ascend ng)
-  pub pairs_named : All (λ c. c.pair < 512) ng
+  pub pairs_named : All (λ c. c.pair < MOST_PAIRS) ng
 
 -- numbers of columns or constraints that ascend strictly, each with a narrow number that is not zero
 pub record AreTerms (terms : List (ℕ × ℤ)) : Type 0 where
@@ -43,7 +42,7 @@ pub record IsPoint (p : CertPoint) : Type 0 where
 abbrev pub IsLine : CertLine → Type 0
 IsLine (Ray ng mult) = IsNoGood ng × AreTerms mult
 IsLine (Point ng e mult) = IsNoGood ng × (pos 1 ≤ℤ e) × IsNarrow e × AreTerms mult
-IsLine (Derived ng hints) = IsNoGood ng × All (λ h. h < 2 ^ 64 - 1) hints
+IsLine (Derived ng hints) = IsNoGood ng × All (λ h. h < LARGEST_WORD) hints
 
 -- the rules of the form: where the numbers of a certificate lie, and their order
 abbrev pub KeepsForm : Cert → Type 0

@@ -4,7 +4,7 @@ use Rattle.std.specs.List.{list_any}
 use Rattle.cert_text.specs.declared.fault.CertWhy.{CertWhy}
 use Rattle.cert_text.specs.declared.fault.CertWhy.TheVariants.{BadHead, BadLine, NotEnded, AfterEnd}
 use Rattle.cert_text.specs.Spelling.{Word}
-use Rattle.cert_text.specs.Parts.{parts}
+use Rattle.cert_text.specs.Splits.{split}
 use Rattle.cert_text.specs.Reading.{Reading, line_at, end_at, point_at, value_at, piece_at, ray_at}
 
 -- the form of a line that comes next
@@ -42,7 +42,7 @@ place_behind (head ∷ []) = Kind
 place_behind (head ∷ kind ∷ lines) = place_in kind (length lines)
 
 abbrev pub words : List ℕ → List Word
-words line = parts 32 line
+words line = split 32 line
 
 abbrev pub is_last : List ℕ → Bool
 is_last line = bytes_eq (slice_index_or (words line) 0 []) (codes "end")

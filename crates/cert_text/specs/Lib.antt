@@ -1,6 +1,6 @@
 pub mod Certs
 pub mod Spelling
-pub mod Parts
+pub mod Splits
 pub mod Lines
 pub mod Reading
 pub mod Faults
@@ -8,4 +8,3 @@ pub mod Texts
 pub mod Names
 pub mod Capped
 pub mod Steps
-pub mod Writing

@@ -1,6 +1,6 @@
 -- The content lines of a text: those that do not begin with `*`.
 use Rattle.std.specs.Prelude.{ℕ, Bool, false, not, ◌&&◌, ◌==◌, nat_lt, if◌then◌else◌, List, [], ◌∷◌, length}
-use Rattle.cert_text.specs.Parts.{parts}
+use Rattle.cert_text.specs.Splits.{split}
 
 abbrev pub is_comment : List ℕ → Bool
 is_comment [] = false
@@ -23,8 +23,8 @@ is_content bytes = nat_lt 0 (length bytes) && not (is_comment bytes)
 
 -- the content lines that an LF ends, without it
 abbrev pub content : List ℕ → List (List ℕ)
-content text = lines_among (parts 10 text)
+content text = lines_among (split 10 text)
 
 -- behind the last LF stands something that is no comment
 abbrev pub is_cut : List ℕ → Bool
-is_cut text = is_content (tail_among (parts 10 text))
+is_cut text = is_content (tail_among (split 10 text))

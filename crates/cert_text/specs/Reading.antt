@@ -3,6 +3,8 @@ use Rattle.std.specs.Prelude.{◌+◌, ◌-◌, ◌^◌, ℕ, ℤ, pos, negsuc, 
 use Rattle.std.specs.Char.{is_ascii_digit}
 use Rattle.std.specs.Str.{all_ascii_digits}
 use Rattle.std.specs.Str.Parse.{digits_value}
+use Rattle.lp_base.specs.Numbers.{narrow_bound}
+use Rattle.lp_base.specs.declared.limits.TheConstants.{LARGEST_WORD, MOST_PAIRS}
 use Rattle.nogoods.specs.declared.choice.Choice.{Choice}
 use Rattle.nogoods.specs.declared.choice.Side.{Side}
 use Rattle.nogoods.specs.declared.choice.Side.TheVariants.{A, B}
@@ -51,14 +53,14 @@ index_at greatest word = natural_at word >>= counted greatest
 
 -- narrow, and at least 1
 abbrev pub positive : ℕ → Reading ℤ
-positive n = if n == 0 then Err BadLine else if nat_lt n (2 ^ 63) then Ok (pos n) else Err NumberWide
+positive n = if n == 0 then Err BadLine else if nat_lt n narrow_bound then Ok (pos n) else Err NumberWide
 
 unfoldable pub positive_at : Word → Reading ℤ
 positive_at word = natural_at word >>= positive
 
 -- narrow, and not zero
 abbrev pub factor : ℤ → Reading ℤ
-factor z = if unsigned_abs z == 0 then Err BadLine else if nat_lt (unsigned_abs z) (2 ^ 63) then Ok z else Err NumberWide
+factor z = if unsigned_abs z == 0 then Err BadLine else if nat_lt (unsigned_abs z) narrow_bound then Ok z else Err NumberWide
 
 unfoldable pub factor_at : Word → Reading ℤ
 factor_at word = whole_at word >>= factor
@@ -92,7 +94,7 @@ chosen least (Some side) (Ok pair) = if nat_lt pair least then Err BadChoice els
 -- a choice begins with a digit: the pair's number, from 1 to 512, and the letter of its side
 unfoldable pub choice_at : ℕ → Word → Reading Choice
 choice_at least word =
-    if is_ascii_digit (slice_index word 0) then chosen least (side_at (slice_index word (length word - 1))) (index_at 512 (take (length word - 1) word))
+    if is_ascii_digit (slice_index word 0) then chosen least (side_at (slice_index word (length word - 1))) (index_at MOST_PAIRS (take (length word - 1) word))
     else Err BadLine
 
 -- the number of a column or a constraint, at least `least`
@@ -103,7 +105,7 @@ unfoldable pub number_at : ℕ → Word → Reading ℕ
 number_at least word = index_at (2 ^ 32 - 1) word >>= from_least least
 
 unfoldable pub hint_at : Word → Reading ℕ
-hint_at word = index_at (2 ^ 64 - 1) word
+hint_at word = index_at LARGEST_WORD word
 
 -- ---- lists of words
 

@@ -29,8 +29,7 @@ pub fn a_text_spells_a_certificate_or_fails()
         ((cert : Cert) × Spells text cert) ⊎ ((line : ℕ) × (why : CertWhy) × Fails text line why) }
 {}
 
-/// The spelling of a certificate that keeps the rules of its form spells this certificate. So what
-/// `write_cert` writes is read again.
+/// The spelling of a certificate that keeps the rules of its form spells this certificate.
 pub fn what_is_written_is_spelled()
     ensures { (cert : Cert) → KeepsForm cert → length (lines_of cert) < 2 ^ 64 → Spells (spelling cert) cert }
 {}

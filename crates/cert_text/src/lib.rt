@@ -1,5 +1,5 @@
-//! The text of a certificate, form 1: read exactly, with the first fault of a text that is none,
-//! and written in its one spelling.
+//! The text of a certificate, form 1: its one spelling, and reading it exactly, with the first fault
+//! of a text that is none.
 #![tactic(auto)]
 
 mod cert;
@@ -7,11 +7,10 @@ mod fault;
 mod laws;
 mod lines;
 mod lists;
-mod parts;
 mod read;
 mod rows;
+mod split;
 mod words;
-mod write;
 
 pub use cert::{Cert, CertLine, CertPoint};
 pub use fault::{CertFault, CertWhy};
@@ -20,4 +19,3 @@ pub use laws::{
     a_text_spells_one_certificate, what_is_spelled_does_not_fail, what_is_written_is_spelled,
 };
 pub use read::read_cert;
-pub use write::write_cert;

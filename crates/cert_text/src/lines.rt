@@ -3,7 +3,7 @@ ghost use Rattle.std.specs.Prelude.{◌≡◌, ◌<◌, ◌+◌, ◌-◌, ◌^�
 ghost use Rattle.cert_text.specs.Lines.{is_comment, is_content};
 ghost use Rattle.cert_text.specs.Steps.{NextIn, all_lines, NextIs, Finds, whole_line, placed};
 
-use crate::parts::place_of;
+use crate::split::place_of;
 use crate::words::Fault;
 use crate::{CertFault, CertWhy};
 use std::marker::Model;

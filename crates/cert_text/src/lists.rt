@@ -6,7 +6,7 @@ ghost use Rattle.cert_text.specs.Reading.{after, first_at, ended, choices_from, 
 ghost use Rattle.cert_text.specs.Steps.{Reads};
 
 use crate::CertWhy;
-use crate::parts::Parts;
+use crate::split::Split;
 use crate::words::{Fault, choice_of, factor_of, hint_of, number_of};
 use lp_base::Sequence;
 use nogoods::{Choice, NoGood};
@@ -14,7 +14,7 @@ use std::alloc::{AllocError, Global};
 
 /// Takes the first of the words that are left, which has to be this one.
 #[tactic(auto, unfolding(crate::specs::Reading::after))]
-pub fn take_word(words: &mut Parts, wanted: &[u8]) -> Result<(), Fault>
+pub fn parse_word(words: &mut Split, wanted: &[u8]) -> Result<(), Fault>
     ensures { Reads (λ _. words.new) result (after wanted.now words.old) }
 {
     match words.next() {
@@ -25,7 +25,7 @@ pub fn take_word(words: &mut Parts, wanted: &[u8]) -> Result<(), Fault>
 
 /// Takes the first of the words that are left.
 #[tactic(auto, unfolding(crate::specs::Reading::first_at))]
-pub fn take_first<'a>(words: &mut Parts<'a>) -> Result<&'a [u8], Fault>
+pub fn parse_first<'a>(words: &mut Split<'a>) -> Result<&'a [u8], Fault>
     ensures { Reads (λ word. (word.now, words.new)) result (first_at words.old) }
 {
     match words.next() {
@@ -36,7 +36,7 @@ pub fn take_first<'a>(words: &mut Parts<'a>) -> Result<&'a [u8], Fault>
 
 /// No word is left.
 #[tactic(auto, unfolding(crate::specs::Reading::ended))]
-pub fn take_end(words: &mut Parts) -> Result<(), Fault>
+pub fn parse_end(words: &mut Split) -> Result<(), Fault>
     ensures { Reads (λ _. words.new) result (ended words.old) }
 {
     match words.next() {
@@ -51,7 +51,7 @@ fn is_colon(word: &[u8]) -> bool
     word == b":".as_slice()
 }
 
-fn choices_of(alloc: Global, words: &mut Parts) -> Result<Sequence<Choice>, Fault>
+fn choices_of(alloc: Global, words: &mut Split) -> Result<Sequence<Choice>, Fault>
     ensures { Reads (λ choices. (choices, words.new)) result (choices_from 0 words.old) }
 {
     let mut choices = Sequence::new(alloc);
@@ -79,14 +79,14 @@ fn made(alloc: Global, choices: &[Choice]) -> Result<NoGood, AllocError>
 }
 
 /// The choices of a line, up to its first colon.
-pub fn no_good_of(alloc: Global, words: &mut Parts) -> Result<NoGood, Fault>
+pub fn no_good_of(alloc: Global, words: &mut Split) -> Result<NoGood, Fault>
     ensures { Reads (λ ng. (ng, words.new)) result (choices_from 0 words.old) }
 {
     let choices = choices_of(alloc, words)?;
     Ok(made(alloc, choices.as_slice())?)
 }
 
-fn last_choices_of(alloc: Global, words: &mut Parts) -> Result<Sequence<Choice>, Fault>
+fn last_choices_of(alloc: Global, words: &mut Split) -> Result<Sequence<Choice>, Fault>
     ensures { Reads (λ choices. choices) result (last_choices_from 0 words.old) }
 {
     let mut choices = Sequence::new(alloc);
@@ -100,14 +100,14 @@ fn last_choices_of(alloc: Global, words: &mut Parts) -> Result<Sequence<Choice>,
 }
 
 /// The choices that are left on a line.
-pub fn last_no_good_of(alloc: Global, words: &mut Parts) -> Result<NoGood, Fault>
+pub fn last_no_good_of(alloc: Global, words: &mut Split) -> Result<NoGood, Fault>
     ensures { Reads (λ ng. ng) result (last_choices_from 0 words.old) }
 {
     let choices = last_choices_of(alloc, words)?;
     Ok(made(alloc, choices.as_slice())?)
 }
 
-fn each_term_of(alloc: Global, words: &mut Parts) -> Result<Sequence<(u32, i64)>, Fault>
+fn each_term_of(alloc: Global, words: &mut Split) -> Result<Sequence<(u32, i64)>, Fault>
     ensures { Reads (λ terms. terms) result (terms_from 0 words.old) }
 {
     let mut terms = Sequence::new(alloc);
@@ -125,14 +125,14 @@ fn each_term_of(alloc: Global, words: &mut Parts) -> Result<Sequence<(u32, i64)>
 }
 
 /// The terms that are left on a line, their numbers ascending, in no more memory than they need.
-pub fn terms_of(alloc: Global, words: &mut Parts) -> Result<Sequence<(u32, i64)>, Fault>
+pub fn terms_of(alloc: Global, words: &mut Split) -> Result<Sequence<(u32, i64)>, Fault>
     ensures { Reads (λ terms. terms) result (terms_from 0 words.old) }
 {
     let terms = each_term_of(alloc, words)?;
     Ok(terms.copy(alloc)?)
 }
 
-fn each_hint_of(alloc: Global, words: &mut Parts) -> Result<Sequence<u64>, Fault>
+fn each_hint_of(alloc: Global, words: &mut Split) -> Result<Sequence<u64>, Fault>
     ensures { Reads (λ hints. hints) result (hints_at words.old) }
 {
     let mut hints = Sequence::new(alloc);
@@ -143,7 +143,7 @@ fn each_hint_of(alloc: Global, words: &mut Parts) -> Result<Sequence<u64>, Fault
 }
 
 /// The hints that are left on a line, in no more memory than they need.
-pub fn hints_of(alloc: Global, words: &mut Parts) -> Result<Sequence<u64>, Fault>
+pub fn hints_of(alloc: Global, words: &mut Split) -> Result<Sequence<u64>, Fault>
     ensures { Reads (λ hints. hints) result (hints_at words.old) }
 {
     let hints = each_hint_of(alloc, words)?;

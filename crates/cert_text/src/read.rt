@@ -8,8 +8,8 @@ ghost use Rattle.cert_text.specs.Texts.{Spells, FailsAs, Fails, Gives};
 ghost use Rattle.cert_text.specs.Steps.{Finds, Reads, all_lines, line_as, head_step, kind_in, kind_step, entry_at, entry_step, log_step, last_step, optimal_step, infeasible_step, unbounded_step, step_of, behind_end, cert_at};
 
 use crate::lines::{Lines, Next};
-use crate::parts::Parts;
 use crate::rows::{end_of, line_of, piece_of, point_of, ray_of, value_of};
+use crate::split::Split;
 use crate::words::Fault;
 use crate::{Cert, CertFault, CertLine, CertPoint, CertWhy};
 use lp_base::Sequence;
@@ -24,7 +24,7 @@ pub enum Kind {
 }
 
 #[tactic(auto, unfolding(crate::specs::Steps::head_step))]
-fn take_head(lines: &mut Lines) -> Result<(), CertFault>
+fn parse_head(lines: &mut Lines) -> Result<(), CertFault>
     ensures { Finds (λ _. lines.new) result (head_step lines.old) }
 {
     let line = lines.next_number();
@@ -53,7 +53,7 @@ fn kind_of(line: &[u8]) -> Result<Kind, Fault>
 }
 
 #[tactic(auto, unfolding(crate::specs::Steps::kind_step))]
-fn take_kind(lines: &mut Lines) -> Result<Kind, CertFault>
+fn parse_kind(lines: &mut Lines) -> Result<Kind, CertFault>
     ensures { Finds (λ kind. (kind, lines.new)) result (kind_step lines.old) }
 {
     let line = lines.whole()?;
@@ -61,41 +61,41 @@ fn take_kind(lines: &mut Lines) -> Result<Kind, CertFault>
 }
 
 #[tactic(auto, unfolding(crate::specs::Steps::line_as))]
-fn take_point(alloc: Global, lines: &mut Lines) -> Result<CertPoint, CertFault>
+fn parse_point(alloc: Global, lines: &mut Lines) -> Result<CertPoint, CertFault>
     ensures { Finds (λ point. (point, lines.new)) result (line_as point_at lines.old) }
 {
     let line = lines.whole()?;
-    lines.judged(point_of(alloc, &mut Parts::of(line, b' ')))
+    lines.judged(point_of(alloc, &mut Split::of(line, b' ')))
 }
 
 #[tactic(auto, unfolding(crate::specs::Steps::line_as))]
-fn take_value(lines: &mut Lines) -> Result<i128, CertFault>
+fn parse_value(lines: &mut Lines) -> Result<i128, CertFault>
     ensures { Finds (λ z. (z, lines.new)) result (line_as value_at lines.old) }
 {
     let line = lines.whole()?;
-    lines.judged(value_of(&mut Parts::of(line, b' ')))
+    lines.judged(value_of(&mut Split::of(line, b' ')))
 }
 
 #[tactic(auto, unfolding(crate::specs::Steps::line_as))]
-fn take_piece(alloc: Global, lines: &mut Lines) -> Result<NoGood, CertFault>
+fn parse_piece(alloc: Global, lines: &mut Lines) -> Result<NoGood, CertFault>
     ensures { Finds (λ piece. (piece, lines.new)) result (line_as piece_at lines.old) }
 {
     let line = lines.whole()?;
-    lines.judged(piece_of(alloc, &mut Parts::of(line, b' ')))
+    lines.judged(piece_of(alloc, &mut Split::of(line, b' ')))
 }
 
 #[tactic(auto, unfolding(crate::specs::Steps::line_as))]
-fn take_ray(alloc: Global, lines: &mut Lines) -> Result<Sequence<(u32, i64)>, CertFault>
+fn parse_ray(alloc: Global, lines: &mut Lines) -> Result<Sequence<(u32, i64)>, CertFault>
     ensures { Finds (λ ray. (ray, lines.new)) result (line_as ray_at lines.old) }
 {
     let line = lines.whole()?;
-    lines.judged(ray_of(alloc, &mut Parts::of(line, b' ')))
+    lines.judged(ray_of(alloc, &mut Split::of(line, b' ')))
 }
 
 fn is_last(line: &[u8]) -> bool
     ensures { result ≡ is_last line.now }
 {
-    match Parts::of(line, b' ').next() {
+    match Split::of(line, b' ').next() {
         Some(word) => word == b"end".as_slice(),
         None => false,
     }
@@ -106,7 +106,7 @@ fn is_last(line: &[u8]) -> bool
 fn entry_of(alloc: Global, line: &[u8], count: u64) -> Result<Option<CertLine>, Fault>
     ensures { Reads (λ entry. entry) result (entry_at count line.now) }
 {
-    let mut words = Parts::of(line, b' ');
+    let mut words = Split::of(line, b' ');
     if is_last(line) {
         end_of(&mut words, count)?;
         return Ok(None);
@@ -115,38 +115,38 @@ fn entry_of(alloc: Global, line: &[u8], count: u64) -> Result<Option<CertLine>, 
 }
 
 #[tactic(auto, unfolding(crate::specs::Steps::entry_step))]
-fn take_entry(alloc: Global, lines: &mut Lines, count: u64) -> Result<Option<CertLine>, CertFault>
+fn parse_entry(alloc: Global, lines: &mut Lines, count: u64) -> Result<Option<CertLine>, CertFault>
     ensures { Finds (λ entry. (entry, lines.new)) result (entry_step count lines.old) }
 {
     let line = lines.whole()?;
     lines.judged(entry_of(alloc, line, count))
 }
 
-fn take_log(alloc: Global, lines: &mut Lines) -> Result<Sequence<CertLine>, CertFault>
+fn parse_log(alloc: Global, lines: &mut Lines) -> Result<Sequence<CertLine>, CertFault>
     ensures { Finds (λ log. (log, lines.new)) result (log_step 0 lines.old) }
 {
     let mut log = Sequence::new(alloc);
-    while let Some(entry) = take_entry(alloc, lines, log.len() as u64)? {
+    while let Some(entry) = parse_entry(alloc, lines, log.len() as u64)? {
         log.push(entry)?;
     }
     Ok(log)
 }
 
 #[tactic(auto, unfolding(crate::specs::Steps::last_step, crate::specs::Steps::line_as))]
-fn take_last(lines: &mut Lines) -> Result<u64, CertFault>
+fn parse_last(lines: &mut Lines) -> Result<u64, CertFault>
     ensures { Finds (λ k. (k, lines.new)) result (last_step lines.old) }
 {
     let line = lines.whole()?;
-    lines.judged(end_of(&mut Parts::of(line, b' '), 0))
+    lines.judged(end_of(&mut Split::of(line, b' '), 0))
 }
 
 #[tactic(auto, unfolding(crate::specs::Steps::optimal_step))]
 fn optimal_of(alloc: Global, lines: &mut Lines) -> Result<Cert, CertFault>
     ensures { Finds (λ cert. (cert, lines.new)) result (optimal_step lines.old) }
 {
-    let point = take_point(alloc, lines)?;
-    let z = take_value(lines)?;
-    let log = take_log(alloc, lines)?;
+    let point = parse_point(alloc, lines)?;
+    let z = parse_value(lines)?;
+    let log = parse_log(alloc, lines)?;
     Ok(Cert::Optimal {
         point,
         z,
@@ -158,7 +158,7 @@ fn optimal_of(alloc: Global, lines: &mut Lines) -> Result<Cert, CertFault>
 fn infeasible_of(alloc: Global, lines: &mut Lines) -> Result<Cert, CertFault>
     ensures { Finds (λ cert. (cert, lines.new)) result (infeasible_step lines.old) }
 {
-    let log = take_log(alloc, lines)?;
+    let log = parse_log(alloc, lines)?;
     Ok(Cert::Infeasible { lines: log })
 }
 
@@ -166,10 +166,10 @@ fn infeasible_of(alloc: Global, lines: &mut Lines) -> Result<Cert, CertFault>
 fn unbounded_of(alloc: Global, lines: &mut Lines) -> Result<Cert, CertFault>
     ensures { Finds (λ cert. (cert, lines.new)) result (unbounded_step lines.old) }
 {
-    let piece = take_piece(alloc, lines)?;
-    let point = take_point(alloc, lines)?;
-    let ray = take_ray(alloc, lines)?;
-    take_last(lines)?;
+    let piece = parse_piece(alloc, lines)?;
+    let point = parse_point(alloc, lines)?;
+    let ray = parse_ray(alloc, lines)?;
+    parse_last(lines)?;
     Ok(Cert::Unbounded { piece, point, ray })
 }
 
@@ -185,7 +185,7 @@ fn cert_of_kind(alloc: Global, kind: Kind, lines: &mut Lines) -> Result<Cert, Ce
 
 // No content stands behind the last line.
 #[tactic(auto, unfolding(crate::specs::Steps::behind_end))]
-fn take_nothing(lines: &mut Lines) -> Result<(), CertFault>
+fn parse_text_end(lines: &mut Lines) -> Result<(), CertFault>
     ensures { Finds (λ _. lines.old) result (behind_end lines.old) }
 {
     let line = lines.next_number();
@@ -202,10 +202,10 @@ fn take_nothing(lines: &mut Lines) -> Result<(), CertFault>
 fn cert_of(alloc: Global, lines: &mut Lines) -> Result<Cert, CertFault>
     ensures { Finds (λ cert. cert) result (cert_at lines.old) }
 {
-    take_head(lines)?;
-    let kind = take_kind(lines)?;
+    parse_head(lines)?;
+    let kind = parse_kind(lines)?;
     let cert = cert_of_kind(alloc, kind, lines)?;
-    take_nothing(lines)?;
+    parse_text_end(lines)?;
     Ok(cert)
 }
 

@@ -6,6 +6,7 @@ ghost use Rattle.cert_text.specs.Reading.{below_zero, counted, index_at, positiv
 ghost use Rattle.cert_text.specs.Capped.{most, capped_digits_at, capped_natural_at, capped_whole_at, negative_at, nonnegative_at, with_digit};
 
 use crate::CertWhy;
+use lp_base::{LARGEST_NARROW, LARGEST_WORD, MOST_PAIRS};
 use nogoods::{Choice, Side};
 use std::alloc::AllocError;
 
@@ -31,8 +32,6 @@ impl From<CertWhy> for Fault {
         Fault::Of(why)
     }
 }
-
-const PAIRS: u64 = 512;
 
 /// A larger number is read as this one. It is past every limit of the text.
 const MOST: u128 = 100_000_000_000_000_000_000_000_000_000_000_000_000;
@@ -143,7 +142,7 @@ fn positive(number: u128) -> Result<i64, CertWhy>
     if number == 0 {
         return Err(CertWhy::BadLine);
     }
-    if number >= 1 << 63 {
+    if number > LARGEST_NARROW {
         return Err(CertWhy::NumberWide);
     }
     Ok(number as i64)
@@ -165,7 +164,7 @@ fn factor(number: i128) -> Result<i64, CertWhy>
     if number == 0 {
         return Err(CertWhy::BadLine);
     }
-    if number.unsigned_abs() >= 1 << 63 {
+    if number.unsigned_abs() > LARGEST_NARROW {
         return Err(CertWhy::NumberWide);
     }
     Ok(number as i64)
@@ -235,9 +234,9 @@ fn side_of(letter: u8) -> Option<Side>
 }
 
 fn chosen(least: u32, side: Option<Side>, pair: Result<u64, CertWhy>) -> Result<Choice, CertWhy>
-    requires { IfOk pair (λ p. p < 512) }
+    requires { IfOk pair (λ p. p < MOST_PAIRS) }
     ensures value { result ≡ chosen least side pair }
-    ensures below { IfOk result (λ c. c.pair < 512) }
+    ensures below { IfOk result (λ c. c.pair < MOST_PAIRS) }
 {
     let (Some(side), Ok(pair)) = (side, pair) else {
         return Err(CertWhy::BadChoice);
@@ -253,7 +252,7 @@ fn chosen(least: u32, side: Option<Side>, pair: Result<u64, CertWhy>) -> Result<
 #[tactic(auto, unfolding(crate::specs::Reading::choice_at))]
 pub fn choice_of(word: &[u8], least: u32) -> Result<Choice, CertWhy>
     ensures value { result ≡ choice_at least word.now }
-    ensures below { IfOk result (λ c. c.pair < 512) }
+    ensures below { IfOk result (λ c. c.pair < MOST_PAIRS) }
 {
     let [first, ..] = word else {
         return Err(CertWhy::BadLine);
@@ -264,7 +263,7 @@ pub fn choice_of(word: &[u8], least: u32) -> Result<Choice, CertWhy>
     let Some((letter, number)) = word.split_last() else {
         return Err(CertWhy::BadLine);
     };
-    chosen(least, side_of(*letter), index_of(number, PAIRS))
+    chosen(least, side_of(*letter), index_of(number, MOST_PAIRS as u64))
 }
 
 /// The number of a column or a constraint, at least the least one.
@@ -285,5 +284,5 @@ pub fn number_of(word: &[u8], least: u32) -> Result<u32, CertWhy>
 pub fn hint_of(word: &[u8]) -> Result<u64, CertWhy>
     ensures { result ≡ hint_at word.now }
 {
-    index_of(word, u64::MAX)
+    index_of(word, LARGEST_WORD as u64)
 }

@@ -4,7 +4,8 @@ ghost use Rattle.derivation.specs.Logs.{no_goods};
 ghost use Rattle.nogoods.specs.declared.choice.Side.TheVariants.{A, B};
 
 use crate::command_tests::{BOUNDED_DECK, CERTIFICATE, FALLING_DECK, OPTIMAL, UNBOUNDED};
-use cert_text::{read_cert, write_cert};
+use cert_text::read_cert;
+use cert_write::write_cert;
 use cuts::{Cut, CutFault, check_cut};
 use deck_case::case_of;
 use derivation::Log;

@@ -2,10 +2,10 @@
 use Rattle.std.proofs.Common.{ℕ, ◌≡◌, ◌∙◌, refl, sym, ap, subst, arith, List, Option, None, Some, drop, ◌⊎◌, inl, inr}
 use Rattle.std.specs.Prelude.{Result, Ok, Err}
 use Rattle.lpcc_case.specs.Instance.{Instance}
-use Rattle.mps_pairs.specs.Texts.{Spells, Fails}
-use Rattle.mps_pairs.specs.declared.deck.Deck as decks
-use Rattle.mps_pairs.specs.declared.fault.DeckWhy.{DeckWhy}
-use Rattle.mps_pairs.specs.declared.fault.DeckWhy.TheVariants.{AfterEnd}
+use Rattle.decks.specs.Texts.{Spells, Fails}
+use Rattle.decks.specs.declared.deck.Deck as decks
+use Rattle.decks.specs.declared.fault.DeckWhy.{DeckWhy}
+use Rattle.decks.specs.declared.fault.DeckWhy.TheVariants.{AfterEnd}
 use Rattle.deck_case.specs.declared.fault.CaseFault.{CaseFault}
 use Rattle.deck_case.specs.declared.fault.CaseFault.TheVariants as case_fault
 use Rattle.deck_case.specs.DeckCases.{HasCase}

@@ -2,11 +2,11 @@
 use Rattle.std.specs.Prelude.{◌≡◌, ◌<◌, ◌≤◌, ◌⊎◌, ℕ, List, Option, None, Some, Result, Ok, Err, drop, length}
 use Rattle.lpcc_case.specs.Instance.{Instance}
 use Rattle.lpcc_case.specs.declared.verdict.Verdict.{Verdict}
-use Rattle.mps_pairs.specs.After.{first_after}
-use Rattle.mps_pairs.specs.Texts.{Spells, Fails}
-use Rattle.mps_pairs.specs.declared.deck.Deck as decks
-use Rattle.mps_pairs.specs.declared.fault.DeckWhy.{DeckWhy}
-use Rattle.mps_pairs.specs.declared.fault.DeckWhy.TheVariants.{AfterEnd}
+use Rattle.decks.specs.After.{first_after}
+use Rattle.decks.specs.Texts.{Spells, Fails}
+use Rattle.decks.specs.declared.deck.Deck as decks
+use Rattle.decks.specs.declared.fault.DeckWhy.{DeckWhy}
+use Rattle.decks.specs.declared.fault.DeckWhy.TheVariants.{AfterEnd}
 use Rattle.deck_case.specs.declared.fault.CaseFault.{CaseFault}
 use Rattle.deck_case.specs.declared.fault.CaseFault.TheVariants as case_fault
 use Rattle.deck_case.specs.DeckCases.{HasCase}

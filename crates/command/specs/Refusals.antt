@@ -1,9 +1,9 @@
 -- The texts and statuses of the refusals of an input.
 use Rattle.std.specs.Prelude.{ℕ, List, [], ◌∷◌, ◌++◌, codes}
 use Rattle.std.specs.Fmt.{decimal}
-use Rattle.mps_pairs.specs.Whys.{why_name}
-use Rattle.mps_pairs.specs.declared.fault.DeckFault.{DeckFault}
-use Rattle.mps_pairs.specs.declared.fault.DeckFault.TheVariants as deck_fault
+use Rattle.decks.specs.Whys.{why_name}
+use Rattle.decks.specs.declared.fault.DeckFault.{DeckFault}
+use Rattle.decks.specs.declared.fault.DeckFault.TheVariants as deck_fault
 use Rattle.deck_case.specs.declared.fault.CaseFault.{CaseFault}
 use Rattle.deck_case.specs.declared.fault.CaseFault.TheVariants as case_fault
 use Rattle.command.specs.declared.refusal.Refusal.{Refusal}

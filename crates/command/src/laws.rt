@@ -12,7 +12,7 @@ use deck_case::{
     a_decks_case_keeps_the_limits, case_exactly_without_a_fault, case_is_determined,
     fault_is_determined, verdicts_are_those_of_the_deck,
 };
-use mps_pairs::{spelled_decks_keep, spelled_once, spelled_or_faulty};
+use decks::{spelled_decks_keep, spelled_once, spelled_or_faulty};
 
 /// The bytes of an input begin with one case and one rest behind it at most, or are the cause of
 /// one refusal.

@@ -1,10 +1,10 @@
 //! The case of the deck that a source gives.
 ghost use Rattle.std.specs.Prelude.{◌≡◌, ◌<◌, ◌≤◌, ◌⊎◌, ◌^◌, ◌-◌, ℕ, List, Err, IfErr, IfOk, MatchResult, None, Some, drop, length};
 ghost use Rattle.lp_io.specs.Faults.{Rose};
-ghost use Rattle.mps_pairs.specs.declared.fault.DeckFault.TheVariants.{At};
-ghost use Rattle.mps_pairs.specs.declared.fault.DeckWhy.TheVariants.{AfterEnd};
-ghost use Rattle.mps_pairs.specs.Decks.{IsDeck};
-ghost use Rattle.mps_pairs.specs.Texts.{Spells};
+ghost use Rattle.decks.specs.declared.fault.DeckFault.TheVariants.{At};
+ghost use Rattle.decks.specs.declared.fault.DeckWhy.TheVariants.{AfterEnd};
+ghost use Rattle.decks.specs.Decks.{IsDeck};
+ghost use Rattle.decks.specs.Texts.{Spells};
 ghost use Rattle.command.specs.Answers.{IsAnswer};
 ghost use Rattle.command.specs.Inputs.{IsFaulty, IsReadAlone, SpellsAlone, SpellsCase, unwanted};
 ghost use Rattle.command.specs.declared.extent.Extent.TheVariants as extent;
@@ -14,9 +14,10 @@ use crate::extent::Extent;
 use crate::laws::a_deck_alone_is_read_once;
 use crate::refusal::Refusal;
 use deck_case::case_of;
+use decks::{Deck, DeckFault};
 use lp_io::{Source, TakeFault, take_all};
 use lpcc_case::Case;
-use mps_pairs::{Deck, DeckFault, nothing_after, read_deck};
+use mps_pairs::{nothing_after, read_deck};
 use std::alloc::Global;
 
 /// The most bytes that a command takes which reads a deck alone.

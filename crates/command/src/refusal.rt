@@ -3,7 +3,7 @@ ghost use Rattle.std.specs.Prelude.{◌≡◌, IfOk, string_bytes};
 ghost use Rattle.command.specs.Refusals.{of_case_fault, of_deck_fault, status_of, text_of};
 
 use deck_case::CaseFault;
-use mps_pairs::{DeckFault, DeckWhy};
+use decks::{DeckFault, DeckWhy};
 use std::alloc::{AllocError, Global};
 use std::fmt;
 

@@ -5,12 +5,12 @@ use Rattle.std.proofs.lemmas.Bool.{cases_eq}
 use Rattle.std.proofs.lemmas.List.FromFn.{get_or-enumerate_from, length-enumerate_from}
 use Rattle.std.proofs.lemmas.Option.{slice_get-get_or, get_or_from_slice_get, same_Some}
 use Rattle.lpcc_case.specs.declared.constraint.Constraint.{Constraint}
-use Rattle.mps_pairs.specs.Decks.{IsDeck, entries_of}
-use Rattle.mps_pairs.specs.declared.deck.Deck.{Deck}
-use Rattle.mps_pairs.specs.declared.deck.Entry.{Entry}
-use Rattle.mps_pairs.specs.declared.deck.Letter.{Letter}
-use Rattle.mps_pairs.specs.declared.deck.Letter.TheVariants.{N}
-use Rattle.mps_pairs.specs.declared.deck.Row.{Row}
+use Rattle.decks.specs.Decks.{IsDeck, entries_of}
+use Rattle.decks.specs.declared.deck.Deck.{Deck}
+use Rattle.decks.specs.declared.deck.Entry.{Entry}
+use Rattle.decks.specs.declared.deck.Letter.{Letter}
+use Rattle.decks.specs.declared.deck.Letter.TheVariants.{N}
+use Rattle.decks.specs.declared.deck.Row.{Row}
 use Rattle.deck_case.specs.declared.fault.CaseFault.{CaseFault}
 use Rattle.deck_case.specs.CaseParts.{constraints_of_row, constraints_of_rows, row_constraints}
 use Rattle.deck_case.specs.DeckPoints.{row_at, no_row}

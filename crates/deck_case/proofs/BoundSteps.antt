@@ -10,7 +10,7 @@ use Rattle.lp_nums.specs.Fractions.{Fraction}
 use Rattle.lpcc_case.specs.declared.constraint.Constraint.{Constraint}
 use Rattle.deck_case.specs.CaseParts.{Terms, at_least, constraints_of_column, constraints_of_columns, for_bound, upper_bound}
 use Rattle.deck_case.specs.Wide.{has_wide, is_wide, named}
-use Rattle.mps_pairs.specs.declared.deck.Column.{Column}
+use Rattle.decks.specs.declared.deck.Column.{Column}
 use Rattle.deck_case.proofs.Numbered.{numbered_all, numbered_more}
 use Rattle.deck_case.proofs.RowSteps.{not_wide, or_left_false, or_right_false}
 use Rattle.deck_case.proofs.TermSteps.{named_wide}

@@ -14,14 +14,14 @@ use Rattle.lp_nums.specs.Fractions.{Fraction}
 use Rattle.lpcc_case.specs.declared.constraint.Constraint.{Constraint}
 use Rattle.lpcc_case.specs.Cases.{IsCase, IsConstraint, FitsCase, NamesInequality, instance_of}
 use Rattle.lpcc_case.specs.Points.{coefficient}
-use Rattle.mps_pairs.specs.Decks.{IsDeck, IsDeckNumber, IsColumn, entries_of}
-use Rattle.mps_pairs.specs.declared.deck.Bound.{Bound}
-use Rattle.mps_pairs.specs.declared.deck.Column.{Column}
-use Rattle.mps_pairs.specs.declared.deck.Deck.{Deck}
-use Rattle.mps_pairs.specs.declared.deck.Entry.{Entry}
-use Rattle.mps_pairs.specs.declared.deck.Letter.{Letter}
-use Rattle.mps_pairs.specs.declared.deck.Letter.TheVariants.{N, E, L, G}
-use Rattle.mps_pairs.specs.declared.deck.Row.{Row}
+use Rattle.decks.specs.Decks.{IsDeck, IsDeckNumber, IsColumn, entries_of}
+use Rattle.decks.specs.declared.deck.Bound.{Bound}
+use Rattle.decks.specs.declared.deck.Column.{Column}
+use Rattle.decks.specs.declared.deck.Deck.{Deck}
+use Rattle.decks.specs.declared.deck.Entry.{Entry}
+use Rattle.decks.specs.declared.deck.Letter.{Letter}
+use Rattle.decks.specs.declared.deck.Letter.TheVariants.{N, E, L, G}
+use Rattle.decks.specs.declared.deck.Row.{Row}
 use Rattle.deck_case.specs.CaseParts.{Terms, at_least, at_most, between_ends, coefficients, column_constraints, constraints_of, constraints_of_column, constraints_of_row, cost_of, cost_terms, equal_to, fixed_at, for_bound, is_equation, lower_bound, negated, numbers_of, offset_of, row_constraints, row_multiplier, scale_of, terms_of, upper_bound}
 use Rattle.deck_case.specs.DeckCases.{case_of_deck, pair_of}
 use Rattle.deck_case.specs.DeckPoints.{row_at}

@@ -9,7 +9,7 @@ use Rattle.std.proofs.lemmas.Int.{ints}
 use Rattle.lp_base.specs.Sums.{sum_over, dot}
 use Rattle.lp_base.proofs.Ring.{mul_add_right}
 use Rattle.lpcc_case.specs.Points.{left_side}
-use Rattle.mps_pairs.specs.declared.deck.Entry.{Entry}
+use Rattle.decks.specs.declared.deck.Entry.{Entry}
 use Rattle.lpcc_case.specs.Points.{coefficient}
 use Rattle.deck_case.specs.CaseParts.{is_nonzero, terms_of}
 use Rattle.deck_case.specs.Multipliers.{times}

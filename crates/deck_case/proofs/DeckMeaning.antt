@@ -7,10 +7,10 @@ use Rattle.std.proofs.lemmas.List.Elements.{recursion_from_All}
 use Rattle.lp_nums.specs.Fractions.{Fraction, SameValue}
 use Rattle.lpcc_case.specs.Points.{Point, cost_at, left_side}
 use Rattle.lpcc_case.specs.Verdicts.{HasValue}
-use Rattle.mps_pairs.specs.Decks.{IsDeck, entries_of}
-use Rattle.mps_pairs.specs.declared.deck.Deck.{Deck}
-use Rattle.mps_pairs.specs.declared.deck.Entry.{Entry}
-use Rattle.mps_pairs.specs.declared.deck.Row.{Row}
+use Rattle.decks.specs.Decks.{IsDeck, entries_of}
+use Rattle.decks.specs.declared.deck.Deck.{Deck}
+use Rattle.decks.specs.declared.deck.Entry.{Entry}
+use Rattle.decks.specs.declared.deck.Row.{Row}
 use Rattle.deck_case.specs.CaseParts.{cost_terms, offset_of, scale_of, terms_of}
 use Rattle.deck_case.specs.DeckCases.{case_of_deck}
 use Rattle.deck_case.specs.DeckPoints.{column_value, objective_value, row_value, row_at}

@@ -3,7 +3,7 @@ use Rattle.std.proofs.Common.{ℕ, ◌≡◌, refl, ap, inl, inr, List, [], ◌�
 use Rattle.std.specs.Prelude.{◌⊎◌}
 use Rattle.std.proofs.lemmas.Bool.{cases_lt}
 use Rattle.lpcc_case.specs.Instance.{Instance}
-use Rattle.mps_pairs.specs.declared.deck.Deck.{Deck}
+use Rattle.decks.specs.declared.deck.Deck.{Deck}
 use Rattle.deck_case.specs.declared.fault.CaseFault.{CaseFault}
 use Rattle.deck_case.specs.declared.fault.CaseFault.TheVariants.{RowWide, TooMany}
 use Rattle.deck_case.specs.CaseParts.{constraints_of}

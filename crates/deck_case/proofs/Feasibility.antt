@@ -15,16 +15,16 @@ use Rattle.lp_nums.specs.Fractions.{Fraction, SameValue}
 use Rattle.lpcc_case.specs.declared.constraint.Constraint.{Constraint}
 use Rattle.lpcc_case.specs.Instance.{constraint_at, no_constraint}
 use Rattle.lpcc_case.specs.Points.{Point, IsFeasible, IsTight, Meets, left_side}
-use Rattle.mps_pairs.specs.Decks.{IsColumn, IsDeck, NamesQuantity, entries_of, is_inequality}
-use Rattle.mps_pairs.specs.Decks as decks
-use Rattle.mps_pairs.specs.declared.deck.Column.{Column}
-use Rattle.mps_pairs.specs.declared.deck.Deck.{Deck}
-use Rattle.mps_pairs.specs.declared.deck.Entry.{Entry}
-use Rattle.mps_pairs.specs.declared.deck.Letter.{Letter}
-use Rattle.mps_pairs.specs.declared.deck.Letter.TheVariants.{N, E, L, G}
-use Rattle.mps_pairs.specs.declared.deck.Quantity.{Quantity}
-use Rattle.mps_pairs.specs.declared.deck.Quantity.TheVariants.{Col, Row}
-use Rattle.mps_pairs.specs.declared.deck.Row as rows
+use Rattle.decks.specs.Decks.{IsColumn, IsDeck, NamesQuantity, entries_of, is_inequality}
+use Rattle.decks.specs.Decks as decks
+use Rattle.decks.specs.declared.deck.Column.{Column}
+use Rattle.decks.specs.declared.deck.Deck.{Deck}
+use Rattle.decks.specs.declared.deck.Entry.{Entry}
+use Rattle.decks.specs.declared.deck.Letter.{Letter}
+use Rattle.decks.specs.declared.deck.Letter.TheVariants.{N, E, L, G}
+use Rattle.decks.specs.declared.deck.Quantity.{Quantity}
+use Rattle.decks.specs.declared.deck.Quantity.TheVariants.{Col, Row}
+use Rattle.decks.specs.declared.deck.Row as rows
 use Rattle.deck_case.specs.CaseParts.{Terms, at_least, at_most, between_ends, column_constraints, constraints_of, constraints_of_column, constraints_of_row, equal_to, fixed_at, for_bound, lower_bound, negated, row_constraints, row_multiplier, terms_of, upper_bound}
 use Rattle.deck_case.specs.DeckCases.{case_of_deck, pair_of, side_number}
 use Rattle.deck_case.specs.DeckPoints.{IsWithin, IsZeroAt, MeetsDeck, column_value, row_value}

@@ -1,7 +1,7 @@
 -- How the lists of entries grow entry by entry.
 use Rattle.std.proofs.Common.{ℕ, ◌<◌, ◌≡◌, List, [], length, get_or}
-use Rattle.mps_pairs.specs.declared.deck.Entry.{Entry}
-use Rattle.mps_pairs.specs.Decks.{entries_of}
+use Rattle.decks.specs.declared.deck.Entry.{Entry}
+use Rattle.decks.specs.Decks.{entries_of}
 
 -- each list has the entries of its row
 abbrev pub HasEntries : List (List Entry) → List Entry → Type 0

@@ -5,8 +5,8 @@ use Rattle.std.specs.Option.{option_to_list}
 use Rattle.std.proofs.lemmas.List.{get_or_append_left, get_or-append-add, get_or-map, length-append, length-map, map-append, map_more, take-append-drop}
 use Rattle.std.proofs.lemmas.List.Elements.{All-head, All-tail, All-weaker}
 use Rattle.lp_nums.specs.Fractions.{Fraction}
-use Rattle.mps_pairs.specs.Decks.{IsDeckNumber}
-use Rattle.mps_pairs.specs.declared.deck.Entry.{Entry}
+use Rattle.decks.specs.Decks.{IsDeckNumber}
+use Rattle.decks.specs.declared.deck.Entry.{Entry}
 use Rattle.deck_case.specs.CaseParts.{numbers_of}
 use Rattle.deck_case.specs.Multipliers.{ArePositive, multiplier}
 use Rattle.deck_case.specs.Steps.{IsNarrowMultiplier}

@@ -4,12 +4,12 @@ use Rattle.std.specs.List.{range_with_len}
 use Rattle.std.proofs.lemmas.List.{map_more, get_or_default}
 use Rattle.std.proofs.lemmas.List.FromFn.{get_or-map-range_with_len, length-map-range_with_len}
 use Rattle.std.proofs.lemmas.Option.{slice_get_within}
-use Rattle.mps_pairs.specs.Decks.{NamesQuantity}
-use Rattle.mps_pairs.specs.declared.deck.Deck.{Deck}
-use Rattle.mps_pairs.specs.declared.deck.PairLine.{PairLine}
-use Rattle.mps_pairs.specs.declared.deck.Quantity.{Quantity}
-use Rattle.mps_pairs.specs.declared.deck.Quantity.TheVariants.{Col, Row}
-use Rattle.mps_pairs.specs.declared.deck.Row as rows
+use Rattle.decks.specs.Decks.{NamesQuantity}
+use Rattle.decks.specs.declared.deck.Deck.{Deck}
+use Rattle.decks.specs.declared.deck.PairLine.{PairLine}
+use Rattle.decks.specs.declared.deck.Quantity.{Quantity}
+use Rattle.decks.specs.declared.deck.Quantity.TheVariants.{Col, Row}
+use Rattle.decks.specs.declared.deck.Row as rows
 use Rattle.deck_case.specs.DeckCases.{before_column, before_row, pair_of, side_number, side_place}
 use Rattle.deck_case.specs.DeckPoints.{no_row, row_at}
 

@@ -8,16 +8,16 @@ use Rattle.lp_nums.specs.Fractions.{Fraction}
 use Rattle.lpcc_case.specs.declared.constraint.Constraint.{Constraint}
 use Rattle.lpcc_case.specs.declared.constraint.Kind.TheVariants.{Ge}
 use Rattle.lpcc_case.specs.Cases.{NamesInequality}
-use Rattle.mps_pairs.specs.Decks.{IsDeck, NamesQuantity, entries_of, is_inequality}
-use Rattle.mps_pairs.specs.Decks as decks
-use Rattle.mps_pairs.specs.declared.deck.Column.{Column}
-use Rattle.mps_pairs.specs.declared.deck.Deck.{Deck}
-use Rattle.mps_pairs.specs.declared.deck.Entry.{Entry}
-use Rattle.mps_pairs.specs.declared.deck.Letter.{Letter}
-use Rattle.mps_pairs.specs.declared.deck.Letter.TheVariants.{N, E, L, G}
-use Rattle.mps_pairs.specs.declared.deck.Quantity.{Quantity}
-use Rattle.mps_pairs.specs.declared.deck.Quantity.TheVariants.{Col, Row}
-use Rattle.mps_pairs.specs.declared.deck.Row as rows
+use Rattle.decks.specs.Decks.{IsDeck, NamesQuantity, entries_of, is_inequality}
+use Rattle.decks.specs.Decks as decks
+use Rattle.decks.specs.declared.deck.Column.{Column}
+use Rattle.decks.specs.declared.deck.Deck.{Deck}
+use Rattle.decks.specs.declared.deck.Entry.{Entry}
+use Rattle.decks.specs.declared.deck.Letter.{Letter}
+use Rattle.decks.specs.declared.deck.Letter.TheVariants.{N, E, L, G}
+use Rattle.decks.specs.declared.deck.Quantity.{Quantity}
+use Rattle.decks.specs.declared.deck.Quantity.TheVariants.{Col, Row}
+use Rattle.decks.specs.declared.deck.Row as rows
 use Rattle.deck_case.specs.CaseParts.{Terms, at_least, at_most, column_constraints, constraints_of, constraints_of_column, constraints_of_columns, constraints_of_row, fixed_at, for_bound, lower_bound, upper_bound, row_constraints, row_multiplier, terms_of}
 use Rattle.deck_case.specs.DeckCases.{before_row, is_upper, side_number, side_place}
 use Rattle.deck_case.specs.DeckPoints.{row_at}

@@ -11,11 +11,11 @@ use Rattle.std.proofs.lemmas.List.{append-nil, get_or-map, length-map}
 use Rattle.std.proofs.lemmas.List.Elements.{All-cons, All-head, All-nil, All-tail}
 use Rattle.lp_nums.specs.Fractions.{Fraction}
 use Rattle.lpcc_case.specs.declared.constraint.Constraint.{Constraint}
-use Rattle.mps_pairs.specs.Decks.{IsDeckNumber}
-use Rattle.mps_pairs.specs.declared.deck.Entry.{Entry}
-use Rattle.mps_pairs.specs.declared.deck.Letter.{Letter}
-use Rattle.mps_pairs.specs.declared.deck.Letter.TheVariants.{N, E, L, G}
-use Rattle.mps_pairs.specs.declared.deck.Row.{Row}
+use Rattle.decks.specs.Decks.{IsDeckNumber}
+use Rattle.decks.specs.declared.deck.Entry.{Entry}
+use Rattle.decks.specs.declared.deck.Letter.{Letter}
+use Rattle.decks.specs.declared.deck.Letter.TheVariants.{N, E, L, G}
+use Rattle.decks.specs.declared.deck.Row.{Row}
 use Rattle.deck_case.specs.declared.fault.CaseFault.{CaseFault}
 use Rattle.deck_case.specs.declared.fault.CaseFault.TheVariants.{RowWide, TooMany, NoMemory}
 use Rattle.deck_case.specs.CaseParts.{Terms, at_least, at_most, between_ends, coefficients, constraints_of_row, equal_to, is_equation, negated, numbers_of, row_multiplier, terms_of}

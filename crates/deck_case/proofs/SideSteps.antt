@@ -7,8 +7,8 @@ use Rattle.std.specs.Option.{option_map}
 use Rattle.std.proofs.lemmas.Int.{ints, unsigned_abs-mul}
 use Rattle.lp_base.proofs.Ring.{mul_add_right, mul_assoc, mul_comm, mul_swap}
 use Rattle.lp_nums.specs.Fractions.{Fraction}
-use Rattle.mps_pairs.specs.declared.deck.Letter.{Letter}
-use Rattle.mps_pairs.specs.declared.deck.Letter.TheVariants.{N, E, L, G}
+use Rattle.decks.specs.declared.deck.Letter.{Letter}
+use Rattle.decks.specs.declared.deck.Letter.TheVariants.{N, E, L, G}
 use Rattle.deck_case.specs.declared.rows.Ends.{Ends}
 use Rattle.deck_case.specs.Multipliers.{times}
 use Rattle.deck_case.specs.Rationals.{minus, negative, plus, size}

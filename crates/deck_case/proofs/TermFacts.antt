@@ -13,10 +13,10 @@ use Rattle.std.proofs.lemmas.List.FromFn.{get_or-map-range_with_len, length-map-
 use Rattle.std.proofs.lemmas.Option.{slice_get_within, get_or_from_slice_get}
 use Rattle.lp_base.specs.Ascending.{ascends_by, number_of}
 use Rattle.lp_nums.specs.Fractions.{Fraction}
-use Rattle.mps_pairs.specs.Decks.{IsDeck, IsDeckNumber, IsRow, entries_of, entry_column}
-use Rattle.mps_pairs.specs.declared.deck.Deck.{Deck}
-use Rattle.mps_pairs.specs.declared.deck.Entry.{Entry}
-use Rattle.mps_pairs.specs.declared.deck.Row.{Row}
+use Rattle.decks.specs.Decks.{IsDeck, IsDeckNumber, IsRow, entries_of, entry_column}
+use Rattle.decks.specs.declared.deck.Deck.{Deck}
+use Rattle.decks.specs.declared.deck.Entry.{Entry}
+use Rattle.decks.specs.declared.deck.Row.{Row}
 use Rattle.deck_case.specs.CaseParts.{is_nonzero, numbers_of, terms_of}
 use Rattle.deck_case.specs.Multipliers.{times}
 use Rattle.deck_case.specs.Steps.{IsClearedBy}

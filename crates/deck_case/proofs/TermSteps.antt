@@ -6,7 +6,7 @@ use Rattle.std.proofs.lemmas.Bool.Decides.{Decides-int_eq}
 use Rattle.std.proofs.lemmas.List.{append-nil, map-append, take_more, take-append-drop}
 use Rattle.std.proofs.lemmas.List.Elements.{filter-append}
 use Rattle.std.proofs.lemmas.List.Folds.{list_any-append}
-use Rattle.mps_pairs.specs.declared.deck.Entry.{Entry}
+use Rattle.decks.specs.declared.deck.Entry.{Entry}
 use Rattle.deck_case.specs.CaseParts.{coefficients, is_nonzero, terms_of}
 use Rattle.deck_case.specs.Multipliers.{times}
 use Rattle.deck_case.specs.Wide.{has_wide, is_wide, named}

@@ -11,8 +11,8 @@ use Rattle.lpcc_case.specs.Points.{Point, IsFeasible, IsLower, cost_at}
 use Rattle.lpcc_case.specs.Verdicts.{IsTrueOf, IsUnbounded}
 use Rattle.lpcc_case.specs.declared.verdict.Verdict.{Verdict}
 use Rattle.lpcc_case.specs.declared.verdict.Verdict.TheVariants.{Optimal, Infeasible, Unbounded}
-use Rattle.mps_pairs.specs.Decks.{IsDeck, NamesQuantity}
-use Rattle.mps_pairs.specs.declared.deck.Deck.{Deck}
+use Rattle.decks.specs.Decks.{IsDeck, NamesQuantity}
+use Rattle.decks.specs.declared.deck.Deck.{Deck}
 use Rattle.deck_case.specs.DeckCases.{HasCase, case_of_deck}
 use Rattle.deck_case.specs.DeckPoints.{MeetsDeck}
 use Rattle.deck_case.specs.DeckVerdicts.{IsLeastValue, IsTrueOfDeck, relaxed, relaxed_deck, value_of, whole}

@@ -7,13 +7,13 @@ use Rattle.lp_nums.specs.Fractions.{Fraction}
 use Rattle.lpcc_case.specs.declared.constraint.Constraint.{Constraint}
 use Rattle.lpcc_case.specs.declared.constraint.Kind.TheVariants.{Ge, Eq}
 use Rattle.lpcc_case.specs.Points.{coefficient}
-use Rattle.mps_pairs.specs.Decks.{entries_of}
-use Rattle.mps_pairs.specs.declared.deck.Column.{Column}
-use Rattle.mps_pairs.specs.declared.deck.Deck.{Deck}
-use Rattle.mps_pairs.specs.declared.deck.Entry.{Entry}
-use Rattle.mps_pairs.specs.declared.deck.Letter.{Letter}
-use Rattle.mps_pairs.specs.declared.deck.Letter.TheVariants.{E}
-use Rattle.mps_pairs.specs.declared.deck.Row.{Row}
+use Rattle.decks.specs.Decks.{entries_of}
+use Rattle.decks.specs.declared.deck.Column.{Column}
+use Rattle.decks.specs.declared.deck.Deck.{Deck}
+use Rattle.decks.specs.declared.deck.Entry.{Entry}
+use Rattle.decks.specs.declared.deck.Letter.{Letter}
+use Rattle.decks.specs.declared.deck.Letter.TheVariants.{E}
+use Rattle.decks.specs.declared.deck.Row.{Row}
 use Rattle.deck_case.specs.Multipliers.{multiplier, times}
 use Rattle.deck_case.specs.Sides.{sides}
 

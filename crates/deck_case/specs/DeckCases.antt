@@ -3,14 +3,14 @@ use Rattle.std.specs.Prelude.{◌≡◌, ◌≤◌, ◌<◌, ◌+◌, ◌&&◌, 
 use Rattle.std.specs.List.{enumerate_from}
 use Rattle.lpcc_case.specs.Cases.{instance_of}
 use Rattle.lpcc_case.specs.Instance.{Instance}
-use Rattle.mps_pairs.specs.Decks.{entries_of}
-use Rattle.mps_pairs.specs.declared.deck.Deck.{Deck}
-use Rattle.mps_pairs.specs.declared.deck.Letter.{Letter}
-use Rattle.mps_pairs.specs.declared.deck.Letter.TheVariants.{N, E, L, G}
-use Rattle.mps_pairs.specs.declared.deck.PairLine.{PairLine}
-use Rattle.mps_pairs.specs.declared.deck.Quantity.{Quantity}
-use Rattle.mps_pairs.specs.declared.deck.Quantity.TheVariants.{Col, Row}
-use Rattle.mps_pairs.specs.declared.deck.Row as rows
+use Rattle.decks.specs.Decks.{entries_of}
+use Rattle.decks.specs.declared.deck.Deck.{Deck}
+use Rattle.decks.specs.declared.deck.Letter.{Letter}
+use Rattle.decks.specs.declared.deck.Letter.TheVariants.{N, E, L, G}
+use Rattle.decks.specs.declared.deck.PairLine.{PairLine}
+use Rattle.decks.specs.declared.deck.Quantity.{Quantity}
+use Rattle.decks.specs.declared.deck.Quantity.TheVariants.{Col, Row}
+use Rattle.decks.specs.declared.deck.Row as rows
 use Rattle.deck_case.specs.CaseParts.{constraints_of, constraints_of_columns, constraints_of_rows, cost_of, offset_of, row_constraints, scale_of}
 use Rattle.deck_case.specs.DeckPoints.{row_at}
 use Rattle.deck_case.specs.Wide.{wide_lines}

@@ -2,13 +2,13 @@
 use Rattle.std.specs.Prelude.{◌≡◌, ◌≢◌, ℕ, pos, All, Option, None, Some, IfSome, ◌⊎◌, map, slice_get, slice_index_or, length}
 use Rattle.lp_nums.specs.Fractions.{Fraction, SameValue}
 use Rattle.lpcc_case.specs.Points.{Point}
-use Rattle.mps_pairs.specs.Decks.{entries_of}
-use Rattle.mps_pairs.specs.declared.deck.Column.{Column}
-use Rattle.mps_pairs.specs.declared.deck.Deck.{Deck}
-use Rattle.mps_pairs.specs.declared.deck.Letter.TheVariants.{N}
-use Rattle.mps_pairs.specs.declared.deck.Quantity.{Quantity}
-use Rattle.mps_pairs.specs.declared.deck.Quantity.TheVariants.{Col, Row}
-use Rattle.mps_pairs.specs.declared.deck.Row as rows
+use Rattle.decks.specs.Decks.{entries_of}
+use Rattle.decks.specs.declared.deck.Column.{Column}
+use Rattle.decks.specs.declared.deck.Deck.{Deck}
+use Rattle.decks.specs.declared.deck.Letter.TheVariants.{N}
+use Rattle.decks.specs.declared.deck.Quantity.{Quantity}
+use Rattle.decks.specs.declared.deck.Quantity.TheVariants.{Col, Row}
+use Rattle.decks.specs.declared.deck.Row as rows
 use Rattle.deck_case.specs.Rationals.{IsAtMost, minus, product, total}
 use Rattle.deck_case.specs.Sides.{sides}
 

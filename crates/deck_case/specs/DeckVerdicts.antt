@@ -6,7 +6,7 @@ use Rattle.lpcc_case.specs.Instance.{Instance}
 use Rattle.lpcc_case.specs.Points.{Point}
 use Rattle.lpcc_case.specs.declared.verdict.Verdict.{Verdict}
 use Rattle.lpcc_case.specs.declared.verdict.Verdict.TheVariants.{Optimal, Infeasible, Unbounded}
-use Rattle.mps_pairs.specs.declared.deck.Deck.{Deck}
+use Rattle.decks.specs.declared.deck.Deck.{Deck}
 use Rattle.deck_case.specs.DeckPoints.{MeetsDeck, objective_value, row_at}
 use Rattle.deck_case.specs.Rationals.{IsAtMost, IsBelow}
 

@@ -1,6 +1,6 @@
 -- When a deck has no case.
 use Rattle.std.specs.Prelude.{◌≡◌, Some, slice_get}
-use Rattle.mps_pairs.specs.declared.deck.Deck.{Deck}
+use Rattle.decks.specs.declared.deck.Deck.{Deck}
 use Rattle.deck_case.specs.declared.fault.CaseFault.{CaseFault}
 use Rattle.deck_case.specs.declared.fault.CaseFault.TheVariants.{RowWide, TooMany, NoMemory}
 use Rattle.deck_case.specs.DeckCases.{HasTooMany}

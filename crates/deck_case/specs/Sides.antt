@@ -1,8 +1,8 @@
 -- What the rows of a deck ask for: from a lower to an upper end.
 use Rattle.std.specs.Prelude.{pos, Bool, true, false, Option, None, Some, int_lt, if◌then◌else◌}
 use Rattle.lp_nums.specs.Fractions.{Fraction}
-use Rattle.mps_pairs.specs.declared.deck.Letter.{Letter}
-use Rattle.mps_pairs.specs.declared.deck.Letter.TheVariants.{N, E, L, G}
+use Rattle.decks.specs.declared.deck.Letter.{Letter}
+use Rattle.decks.specs.declared.deck.Letter.TheVariants.{N, E, L, G}
 use Rattle.deck_case.specs.Rationals.{plus, minus, size}
 
 -- the two ends, none where there is no end

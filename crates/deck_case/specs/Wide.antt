@@ -3,14 +3,14 @@ use Rattle.std.specs.Prelude.{ℕ, ℤ, ◌^◌, ◌++◌, pos, Bool, nat_lt, Li
 use Rattle.std.specs.List.{enumerate_from, flat_map, list_any}
 use Rattle.std.specs.Option.{option_map_or}
 use Rattle.lpcc_case.specs.declared.constraint.Constraint.{Constraint}
-use Rattle.mps_pairs.specs.Decks.{entries_of}
-use Rattle.mps_pairs.specs.declared.deck.Bound.{Bound}
-use Rattle.mps_pairs.specs.declared.deck.Column.{Column}
-use Rattle.mps_pairs.specs.declared.deck.Deck.{Deck}
-use Rattle.mps_pairs.specs.declared.deck.Entry.{Entry}
-use Rattle.mps_pairs.specs.declared.deck.Letter.{Letter}
-use Rattle.mps_pairs.specs.declared.deck.Letter.TheVariants.{N}
-use Rattle.mps_pairs.specs.declared.deck.Row.{Row}
+use Rattle.decks.specs.Decks.{entries_of}
+use Rattle.decks.specs.declared.deck.Bound.{Bound}
+use Rattle.decks.specs.declared.deck.Column.{Column}
+use Rattle.decks.specs.declared.deck.Deck.{Deck}
+use Rattle.decks.specs.declared.deck.Entry.{Entry}
+use Rattle.decks.specs.declared.deck.Letter.{Letter}
+use Rattle.decks.specs.declared.deck.Letter.TheVariants.{N}
+use Rattle.decks.specs.declared.deck.Row.{Row}
 use Rattle.deck_case.specs.CaseParts.{coefficients, constraints_of_row, cost_terms, offset_of, row_multiplier, scale_of}
 
 -- past 2^52 in size

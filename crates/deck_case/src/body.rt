@@ -2,8 +2,8 @@
 ghost use Rattle.std.specs.Prelude.{◌≡◌, ◌≢◌, ◌+◌, ◌<◌, ◌++◌, ◌∷◌, [], All, IfErr, IfOk, IsTrue, None, OnOk, length, map, pos, take};
 ghost use Rattle.std.specs.List.{enumerate_from, range_with_len};
 ghost use Rattle.lp_base.specs.Ascending.{ascends_by};
-ghost use Rattle.mps_pairs.specs.declared.deck.Letter.TheVariants.{N};
-ghost use Rattle.mps_pairs.specs.Decks.{IsDeck, IsDeckNumber, entries_of, entry_column};
+ghost use Rattle.decks.specs.declared.deck.Letter.TheVariants.{N};
+ghost use Rattle.decks.specs.Decks.{IsDeck, IsDeckNumber, entries_of, entry_column};
 ghost use Rattle.deck_case.specs.CaseParts.{constraints_of_row, cost_of, numbers_of, offset_of, row_constraints, scale_of};
 ghost use Rattle.deck_case.specs.DeckCases.{before_row};
 ghost use Rattle.deck_case.specs.DeckPoints.{row_at};
@@ -15,7 +15,7 @@ use crate::objective::{Objective, objective_of_row};
 use crate::rows::push_row;
 use lp_base::Sequence;
 use lpcc_case::Constraint;
-use mps_pairs::{Deck, Entry, Letter, Row};
+use decks::{Deck, Entry, Letter, Row};
 use std::alloc::Global;
 
 /// The objective, the constraints of the other rows in file order, and for each row the number of

@@ -12,7 +12,7 @@ use crate::relations::{at_least, equal_to};
 use lp_base::Sequence;
 use lp_nums::Frac;
 use lpcc_case::Constraint;
-use mps_pairs::{Bound, Column};
+use decks::{Bound, Column};
 use std::alloc::{AllocError, Global};
 
 fn one_term(alloc: Global, column: u32, coefficient: i64) -> Result<Terms, AllocError>

@@ -1,7 +1,7 @@
 //! The entries of each row, and their terms.
 ghost use Rattle.std.specs.Prelude.{◌≡◌, ◌<◌, ◌≤◌, ◌^◌, [], All, IfErr, IfOk, false, map, replicate};
 ghost use Rattle.std.specs.List.{range_with_len};
-ghost use Rattle.mps_pairs.specs.Decks.{entries_of};
+ghost use Rattle.decks.specs.Decks.{entries_of};
 ghost use Rattle.deck_case.specs.CaseParts.{coefficients, terms_of};
 ghost use Rattle.deck_case.specs.Steps.{IsClearedBy, IsFirstOf};
 ghost use Rattle.deck_case.specs.Wide.{has_wide, named};
@@ -9,7 +9,7 @@ ghost use Rattle.deck_case.specs.Wide.{has_wide, named};
 use crate::CaseFault;
 use crate::numbers::whole;
 use lp_base::Sequence;
-use mps_pairs::Entry;
+use decks::Entry;
 use std::alloc::{AllocError, Global};
 
 /// Columns with their coefficients, none of which is zero.

@@ -7,7 +7,7 @@ ghost use Rattle.deck_case.specs.declared.fault.CaseFault.{CaseFault as Fault};
 ghost use Rattle.deck_case.specs.DeckCases.{HasCase};
 ghost use Rattle.deck_case.specs.Faults.{HasCaseFault, IsFaultOf, IsNoMemory};
 ghost use Rattle.lpcc_case.specs.Instance.{Instance};
-ghost use Rattle.mps_pairs.specs.Decks.{IsDeck};
+ghost use Rattle.decks.specs.Decks.{IsDeck};
 
 mod body;
 mod columns;
@@ -30,7 +30,7 @@ pub use laws::{
 };
 use lp_base::Sequence;
 use lpcc_case::Case;
-use mps_pairs::Deck;
+use decks::Deck;
 use std::alloc::Global;
 
 /// The most constraints that a case may have.

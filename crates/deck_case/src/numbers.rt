@@ -3,13 +3,13 @@ ghost use Rattle.std.specs.Prelude.{◌≡◌, ◌^◌, ◌<◌, ◌≤◌, ◌+
 ghost use Rattle.std.specs.Option.{option_to_list};
 ghost use Rattle.lp_nums.specs.Fractions.{Fraction, IsReduced};
 ghost use Rattle.std.specs.Int.{IsGcd};
-ghost use Rattle.mps_pairs.specs.Decks.{IsDeckNumber};
+ghost use Rattle.decks.specs.Decks.{IsDeckNumber};
 ghost use Rattle.deck_case.specs.CaseParts.{numbers_of};
 ghost use Rattle.deck_case.specs.Multipliers.{ArePositive, multiplier, times};
 ghost use Rattle.deck_case.specs.Steps.{IsClearedBy, IsLcm, IsNarrowMultiplier, far_end, narrow};
 
 use lp_nums::{Frac, gcd};
-use mps_pairs::Entry;
+use decks::Entry;
 
 /// The most that a whole number of a case, or a multiplier, may have in size.
 const WIDEST: u128 = 1 << 52;

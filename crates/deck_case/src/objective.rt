@@ -3,8 +3,8 @@ ghost use Rattle.std.specs.Prelude.{◌≡◌, ◌<◌, ◌≤◌, ◌^◌, [], 
 ghost use Rattle.std.specs.List.{range_with_len};
 ghost use Rattle.lp_base.specs.Ascending.{ascends_by, number_of};
 ghost use Rattle.lpcc_case.specs.Points.{coefficient};
-ghost use Rattle.mps_pairs.specs.declared.deck.Letter.TheVariants.{N};
-ghost use Rattle.mps_pairs.specs.Decks.{IsDeckNumber, entry_column};
+ghost use Rattle.decks.specs.declared.deck.Letter.TheVariants.{N};
+ghost use Rattle.decks.specs.Decks.{IsDeckNumber, entry_column};
 ghost use Rattle.deck_case.specs.CaseParts.{cost_of, numbers_of, offset_of, scale_of};
 ghost use Rattle.deck_case.specs.Steps.{IsFirstOf};
 ghost use Rattle.deck_case.specs.Wide.{wide_row};
@@ -13,7 +13,7 @@ use crate::CaseFault;
 use crate::entries::terms;
 use crate::numbers::{multiplier, whole};
 use lp_base::Sequence;
-use mps_pairs::{Entry, Row};
+use decks::{Entry, Row};
 use std::alloc::{AllocError, Global};
 
 /// The cost of each column and the constant, both times the scale.

@@ -1,12 +1,12 @@
 //! Pairs as numbers of constraints.
 ghost use Rattle.std.specs.Prelude.{◌≡◌, ◌≤◌, ◌<◌, ◌^◌, All, IfOk, length, map};
 ghost use Rattle.std.specs.List.{range_with_len};
-ghost use Rattle.mps_pairs.specs.Decks.{IsDeck, NamesQuantity};
+ghost use Rattle.decks.specs.Decks.{IsDeck, NamesQuantity};
 ghost use Rattle.deck_case.specs.CaseParts.{constraints_of};
 ghost use Rattle.deck_case.specs.DeckCases.{before_column, before_row, pair_of, side_number, side_place};
 
 use lp_base::Sequence;
-use mps_pairs::{Deck, Letter, Quantity, Row};
+use decks::{Deck, Letter, Quantity, Row};
 use std::alloc::{AllocError, Global};
 
 /// The place of a pair's side among the constraints of its row.

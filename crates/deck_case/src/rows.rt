@@ -1,8 +1,8 @@
 //! Rows as constraints.
 ghost use Rattle.std.specs.Prelude.{◌≡◌, ◌≢◌, ◌<◌, ◌≤◌, ◌^◌, ◌++◌, ◌∷◌, [], ℤ, All, IfErr, IfSome, OnOk, None, Some, true, false, if◌then◌else◌, unsigned_abs};
 ghost use Rattle.std.specs.Option.{option_map};
-ghost use Rattle.mps_pairs.specs.Decks.{IsDeckNumber};
-ghost use Rattle.mps_pairs.specs.declared.deck.Letter.TheVariants.{N, E, L, G};
+ghost use Rattle.decks.specs.Decks.{IsDeckNumber};
+ghost use Rattle.decks.specs.declared.deck.Letter.TheVariants.{N, E, L, G};
 ghost use Rattle.deck_case.specs.CaseParts.{between_ends, constraints_of_row, equal_to, is_equation, numbers_of};
 ghost use Rattle.deck_case.specs.Steps.{AreEnds, IsClearedBy, IsFirstOf, IsNarrowTerm, ends_of, far_end, narrow};
 ghost use Rattle.deck_case.specs.Multipliers.{times};
@@ -15,7 +15,7 @@ use crate::numbers::{far_end, multiplier, whole};
 use crate::relations::{equal_to, push_lower, push_upper};
 use lp_nums::Frac;
 use lpcc_case::Constraint;
-use mps_pairs::{Entry, Letter, Row};
+use decks::{Entry, Letter, Row};
 use std::alloc::{AllocError, Global};
 
 /// The two ends of a row, none where it has no end.

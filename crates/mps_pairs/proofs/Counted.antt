@@ -7,15 +7,15 @@ use Rattle.std.proofs.lemmas.List.Sums.{sum_by-append}
 use Rattle.std.proofs.lemmas.Bool.{leb-false}
 use Rattle.std.specs.Prelude.{count_by}
 use Rattle.std.specs.List.{sum_by}
-use Rattle.mps_pairs.specs.declared.deck.Letter.{Letter}
-use Rattle.mps_pairs.specs.declared.fault.DeckWhy.TheVariants.{TooMany}
-use Rattle.mps_pairs.specs.Faults.{many_rows_fault}
-use Rattle.mps_pairs.proofs.KeptParts.{if_none}
+use Rattle.decks.specs.declared.deck.Letter.{Letter}
+use Rattle.decks.specs.declared.fault.DeckWhy.TheVariants.{TooMany}
+use Rattle.decks.specs.Faults.{many_rows_fault}
+use Rattle.decks.proofs.KeptParts.{if_none}
 use Rattle.mps_lex.specs.Kinds.{Name}
 use Rattle.mps_pairs.specs.declared.rows.RowState.{RowState}
-use Rattle.mps_pairs.specs.Names.{put}
+use Rattle.decks.specs.Names.{put}
 use Rattle.mps_pairs.specs.Seen.{seen_row}
-use Rattle.mps_pairs.specs.Spelling.{RowLine, is_n, has_objective, kept, number_behind, other_rows, row_named, letter_of}
+use Rattle.decks.specs.Spelling.{RowLine, is_n, has_objective, kept, number_behind, other_rows, row_named, letter_of}
 use Rattle.mps_pairs.proofs.Placed.{row_put}
 
 -- the counts of rows: those other than N rows, whether there is an N row, and those that the deck has

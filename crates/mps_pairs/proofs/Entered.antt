@@ -4,13 +4,13 @@ use Rattle.std.specs.Prelude.{OnOk}
 use Rattle.lp_nums.specs.Fractions.{Fraction}
 use Rattle.mps_lex.specs.Kinds.{Name}
 use Rattle.mps_pairs.specs.declared.fault.Fault.{Fault}
-use Rattle.mps_pairs.specs.declared.deck.Entry.{Entry}
+use Rattle.decks.specs.declared.deck.Entry.{Entry}
 use Rattle.mps_pairs.specs.declared.rows.RowValue.{RowValue}
-use Rattle.mps_pairs.specs.Names.{place, add_name}
-use Rattle.mps_pairs.specs.Numbers.{value_of}
-use Rattle.mps_pairs.specs.Spelling.{RowLine, entry_at, number_of_row, row_named}
+use Rattle.decks.specs.Names.{place, add_name}
+use Rattle.decks.specs.Numbers.{value_of}
+use Rattle.decks.specs.Spelling.{RowLine, entry_at, number_of_row, row_named}
 use Rattle.mps_pairs.specs.Known.{KnownColumns, rows_here, with_column}
-use Rattle.mps_pairs.proofs.KeptNames.{place_own}
+use Rattle.decks.proofs.KeptNames.{place_own}
 
 abbrev pub here_in : KnownColumns → List Name → KnownColumns
 here_in k here = record k { here = here }

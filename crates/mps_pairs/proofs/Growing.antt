@@ -10,16 +10,16 @@ use Rattle.std.specs.List.{AllByRecursion}
 use Rattle.std.specs.Str.{bytes_eq}
 use Rattle.mps_lex.specs.Kinds.{Name}
 use Rattle.mps_lex.specs.Lines.{Line}
-use Rattle.mps_pairs.specs.declared.deck.Entry.{Entry}
-use Rattle.mps_pairs.specs.declared.fault.DeckWhy.{DeckWhy}
-use Rattle.mps_pairs.specs.declared.fault.DeckWhy.TheVariants.{ColumnSplit}
-use Rattle.mps_pairs.specs.Names.{has, place, add_name}
-use Rattle.mps_pairs.specs.Spelling.{field, RowLine, row_line, add_row, rows_of, row_named, number_of_row, Given, in_column, NamedEntry, values_on, entries_on, entries_in, rows_in, column_names, entry_at, entry_of, deck_entries, given_set, givens_on, givens_in, pair_of}
-use Rattle.mps_pairs.specs.Faults.{◌or◌, split_fault, entry_fault, two_entries_fault, full_fault, marker_fault, column_words_fault, column_fault}
+use Rattle.decks.specs.declared.deck.Entry.{Entry}
+use Rattle.decks.specs.declared.fault.DeckWhy.{DeckWhy}
+use Rattle.decks.specs.declared.fault.DeckWhy.TheVariants.{ColumnSplit}
+use Rattle.decks.specs.Names.{has, place, add_name}
+use Rattle.decks.specs.Spelling.{field, RowLine, row_line, add_row, rows_of, row_named, number_of_row, Given, in_column, NamedEntry, values_on, entries_on, entries_in, rows_in, column_names, entry_at, entry_of, deck_entries, given_set, givens_on, givens_in, pair_of}
+use Rattle.decks.specs.Faults.{◌or◌, split_fault, entry_fault, two_entries_fault, full_fault, marker_fault, column_words_fault, column_fault}
 use Rattle.mps_pairs.specs.Known.{KnownColumns, last_name, known_columns, rows_here, with_name, with_entry, with_entries, with_column, known_givens, with_givens, known_pairs, with_pair}
-use Rattle.mps_pairs.proofs.KeptParts.{first_none, second_none, if_none}
-use Rattle.mps_pairs.proofs.KeptNames.{same_name, own_name, place_more, columns_push}
-use Rattle.mps_pairs.proofs.KeptEntries.{IsNamed}
+use Rattle.decks.proofs.KeptParts.{first_none, second_none, if_none}
+use Rattle.decks.proofs.KeptNames.{same_name, own_name, place_more, columns_push}
+use Rattle.decks.proofs.KeptEntries.{IsNamed}
 use Rattle.mps_pairs.proofs.GrowingBounds.{set_push}
 
 -- ---- ROWS

@@ -10,14 +10,14 @@ use Rattle.std.specs.Str.{bytes_eq}
 use Rattle.lp_nums.specs.Fractions.{Fraction}
 use Rattle.mps_lex.specs.Kinds.{Name}
 use Rattle.mps_lex.specs.Lines.{Line}
-use Rattle.mps_pairs.specs.declared.bounds.BoundKind.{BoundKind}
-use Rattle.mps_pairs.specs.declared.bounds.BoundKind.TheVariants.{Up, Lo, Fx, Fr, Mi, Pl}
-use Rattle.mps_pairs.specs.declared.deck.Column.{Column}
-use Rattle.mps_pairs.specs.Names.{has, add_name, named, put}
-use Rattle.mps_pairs.specs.Bounds.{Setting, setting_on, settings_in, bound_set, sets_lower, sets_upper, is_fx, later, last_setting, lower_bound, upper_bound, are_fixed, column_bounds, bounded, below_zero_line, upper_below_zero}
-use Rattle.mps_pairs.specs.Spelling.{first_set}
+use Rattle.decks.specs.declared.bounds.BoundKind.{BoundKind}
+use Rattle.decks.specs.declared.bounds.BoundKind.TheVariants.{Up, Lo, Fx, Fr, Mi, Pl}
+use Rattle.decks.specs.declared.deck.Column.{Column}
+use Rattle.decks.specs.Names.{has, add_name, named, put}
+use Rattle.decks.specs.Bounds.{Setting, setting_on, settings_in, bound_set, sets_lower, sets_upper, is_fx, later, last_setting, lower_bound, upper_bound, are_fixed, column_bounds, bounded, below_zero_line, upper_below_zero}
+use Rattle.decks.specs.Spelling.{first_set}
 use Rattle.mps_pairs.specs.Known.{set_or, bounds_of, known_bounds, free_column, bounds_with, set_by, with_setting, with_settings, with_bound}
-use Rattle.mps_pairs.proofs.KeptNames.{same_name, own_name, has_more, has_added}
+use Rattle.decks.proofs.KeptNames.{same_name, own_name, has_more, has_added}
 
 -- ---- the bounds of a column behind one more setting
 

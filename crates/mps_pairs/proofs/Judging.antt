@@ -1,9 +1,9 @@
 -- The first of two faults.
 use Rattle.std.proofs.Common.{◌≡◌, Option, Some, None, Result, Ok, Err, ap, ◌∙◌}
-use Rattle.mps_pairs.specs.declared.fault.DeckWhy.{DeckWhy}
+use Rattle.decks.specs.declared.fault.DeckWhy.{DeckWhy}
 use Rattle.mps_pairs.specs.declared.fault.Fault.{Fault}
 use Rattle.mps_pairs.specs.declared.fault.Fault.TheVariants as faults
-use Rattle.mps_pairs.specs.Faults.{◌or◌}
+use Rattle.decks.specs.Faults.{◌or◌}
 use Rattle.mps_pairs.specs.Known.{Tells, Judges}
 
 pub first_is : (w : DeckWhy) (a b : Option DeckWhy) → a ≡ Some w → (a or b) ≡ Some w

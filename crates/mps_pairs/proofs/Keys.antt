@@ -8,7 +8,7 @@ use Rattle.std.specs.Str.{bytes_eq}
 use Rattle.mps_lex.specs.Shown.{shown}
 use Rattle.std.specs.Map.{lookup}
 use Rattle.indexmap.specs.IndexMap.{insert_entry}
-use Rattle.mps_pairs.specs.Names.{has, place, add_name, named, put}
+use Rattle.decks.specs.Names.{has, place, add_name, named, put}
 use Rattle.mps_pairs.specs.Seen.{shown_entry}
 
 pub any_shown : (n : List ℕ) (ks : List (Bor (List ℕ))) → list_any (λ k. bytes_eq n k.now) ks ≡ has (map shown ks) n

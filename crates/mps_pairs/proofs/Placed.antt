@@ -7,15 +7,15 @@ use Rattle.std.specs.List.{list_any, position_or_len}
 use Rattle.std.specs.Str.{bytes_eq}
 use Rattle.mps_lex.specs.Kinds.{Name}
 use Rattle.mps_pairs.specs.declared.rows.RowState.{RowState}
-use Rattle.mps_pairs.specs.declared.fault.DeckWhy.TheVariants.{TooMany}
-use Rattle.mps_pairs.specs.Names.{has, place, add_name, named, put}
+use Rattle.decks.specs.declared.fault.DeckWhy.TheVariants.{TooMany}
+use Rattle.decks.specs.Names.{has, place, add_name, named, put}
 use Rattle.mps_pairs.specs.Seen.{seen_row, state_of}
-use Rattle.mps_pairs.specs.Spelling.{Given, row_named}
+use Rattle.decks.specs.Spelling.{Given, row_named}
 use Rattle.lp_nums.specs.Fractions.{Fraction}
 use Rattle.mps_pairs.specs.Known.{KnownGivens}
-use Rattle.mps_pairs.specs.Faults.{full_fault}
-use Rattle.mps_pairs.proofs.KeptNames.{place_has}
-use Rattle.mps_pairs.proofs.KeptParts.{if_none}
+use Rattle.decks.specs.Faults.{full_fault}
+use Rattle.decks.proofs.KeptNames.{place_has}
+use Rattle.decks.proofs.KeptParts.{if_none}
 
 -- ---- places
 

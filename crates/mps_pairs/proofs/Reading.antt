@@ -5,17 +5,17 @@ use Rattle.mps_lex.specs.Kinds.{Name}
 use Rattle.mps_lex.specs.Lines.{Line, pieces, line_of, lines_from}
 use Rattle.mps_lex.specs.declared.line.LineKind.{LineKind}
 use Rattle.mps_lex.specs.declared.line.LineKind.TheVariants.{Blank, Comment, Head, LeftOut, Unknown, Entry}
-use Rattle.mps_pairs.specs.declared.deck.Deck.{Deck}
-use Rattle.mps_pairs.specs.declared.fault.DeckWhy.TheVariants.{NotClosed}
-use Rattle.mps_pairs.specs.declared.fault.DeckFault.{DeckFault}
-use Rattle.mps_pairs.specs.declared.fault.DeckFault.TheVariants.{NoMemory, At}
+use Rattle.decks.specs.declared.deck.Deck.{Deck}
+use Rattle.decks.specs.declared.fault.DeckWhy.TheVariants.{NotClosed}
+use Rattle.decks.specs.declared.fault.DeckFault.{DeckFault}
+use Rattle.decks.specs.declared.fault.DeckFault.TheVariants.{NoMemory, At}
 use Rattle.mps_pairs.specs.declared.sections.Course.{Course}
-use Rattle.mps_pairs.specs.Sections.{Open}
-use Rattle.mps_pairs.specs.Spelling.{size_of, deck_of}
-use Rattle.mps_pairs.specs.Faults.{Found, fault_of}
-use Rattle.mps_pairs.specs.Texts.{IsClean, Answer, answer, answer_from, judged, ends_deck, read_of, Refuses}
+use Rattle.decks.specs.Sections.{Open}
+use Rattle.decks.specs.Spelling.{size_of, deck_of}
+use Rattle.decks.specs.Faults.{Found, fault_of}
+use Rattle.decks.specs.Texts.{IsClean, Answer, answer, answer_from, judged, ends_deck, read_of, Refuses}
 use Rattle.mps_pairs.specs.Known.{course_of, next_course, Known, known, next_kind, next_known, deck_from, line_fault, TellsAt}
-use Rattle.mps_pairs.proofs.KeptSlices.{lines_right}
+use Rattle.decks.proofs.KeptSlices.{lines_right}
 use Rattle.mps_pairs.proofs.Steps.{course_push, fault_same, known_push, deck_same}
 
 -- the lines before the rest are clean, the course and the tables are those of these lines, and what they answer with the

@@ -3,9 +3,9 @@ use Rattle.std.proofs.Common.{ℕ, ◌≡◌, ◌≤◌, ◌<◌, List, [], ◌�
 use Rattle.std.specs.Borrow.{Bor}
 use Rattle.mps_lex.specs.Shown.{shown}
 use Rattle.mps_lex.specs.Kinds.{Name}
-use Rattle.mps_pairs.specs.declared.fault.DeckWhy.TheVariants.{FieldCount}
-use Rattle.mps_pairs.specs.Spelling.{RowLine, Given}
-use Rattle.mps_pairs.specs.Faults.{column_words_fault, givens_fault}
+use Rattle.decks.specs.declared.fault.DeckWhy.TheVariants.{FieldCount}
+use Rattle.decks.specs.Spelling.{RowLine, Given}
+use Rattle.decks.specs.Faults.{column_words_fault, givens_fault}
 
 abbrev pub Slice : Type 0
 Slice = Bor (List ℕ)

@@ -8,20 +8,20 @@ use Rattle.mps_lex.specs.declared.line.Section.{Section}
 use Rattle.mps_lex.specs.declared.line.Section.TheVariants.{Name, Rows, Columns, Rhs, Ranges, Bounds, Pairs, Endata}
 use Rattle.mps_lex.specs.declared.line.LineKind.{LineKind}
 use Rattle.mps_lex.specs.declared.line.LineKind.TheVariants.{Blank, Comment, Head, LeftOut, Unknown, Entry}
-use Rattle.mps_pairs.specs.declared.deck.Column.{Column}
-use Rattle.mps_pairs.specs.declared.deck.Deck.{Deck}
-use Rattle.mps_pairs.specs.declared.fault.DeckWhy.TheVariants.{LeftOutSection}
+use Rattle.decks.specs.declared.deck.Column.{Column}
+use Rattle.decks.specs.declared.deck.Deck.{Deck}
+use Rattle.decks.specs.declared.fault.DeckWhy.TheVariants.{LeftOutSection}
 use Rattle.mps_pairs.specs.declared.sections.Course.{Course}
-use Rattle.mps_pairs.specs.Sections.{Open, is_head, is_begun, behind, open_behind, slice}
-use Rattle.mps_pairs.specs.Bounds.{settings_in}
-use Rattle.mps_pairs.specs.Spelling.{field, rows_of, entries_in, rows_in, column_names, pair_names, deck_of}
-use Rattle.mps_pairs.specs.Faults.{◌or◌, Found, found_at, named_at, end_fault, ended_fault, order_fault, data_fault, kind_fault, fault_of, pair_fault}
+use Rattle.decks.specs.Sections.{Open, is_head, is_begun, behind, open_behind, slice}
+use Rattle.decks.specs.Bounds.{settings_in}
+use Rattle.decks.specs.Spelling.{field, rows_of, entries_in, rows_in, column_names, pair_names, deck_of}
+use Rattle.decks.specs.Faults.{◌or◌, Found, found_at, named_at, end_fault, ended_fault, order_fault, data_fault, kind_fault, fault_of, pair_fault}
 use Rattle.mps_pairs.specs.Known.{course_of, next_course, course_fault, Known, known, tables_of, with_data, next_kind, next_known, deck_from, known_fault, known_end_fault, known_kind_fault, line_fault}
-use Rattle.mps_pairs.proofs.KeptParts.{map_none}
-use Rattle.mps_pairs.proofs.KeptRows.{rows_kept}
-use Rattle.mps_pairs.proofs.KeptEntries.{IsNamed}
-use Rattle.mps_pairs.proofs.KeptColumns.{columns_kept}
-use Rattle.mps_pairs.proofs.KeptSlices.{open_push, Slices, slices_of, next_slices, slices_grown, IsRight, LinesRight}
+use Rattle.decks.proofs.KeptParts.{map_none}
+use Rattle.decks.proofs.KeptRows.{rows_kept}
+use Rattle.decks.proofs.KeptEntries.{IsNamed}
+use Rattle.decks.proofs.KeptColumns.{columns_kept}
+use Rattle.decks.proofs.KeptSlices.{open_push, Slices, slices_of, next_slices, slices_grown, IsRight, LinesRight}
 use Rattle.mps_pairs.proofs.GrowingBounds.{bounds_same, below_same, bounds_push}
 use Rattle.mps_pairs.proofs.Growing.{rows_push, known_columns_push, line_whole, column_fault_same, set_and_givens_push, pairs_push}
 

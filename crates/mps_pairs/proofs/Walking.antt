@@ -8,14 +8,14 @@ use Rattle.std.proofs.lemmas.Option.{same_Some}
 use Rattle.std.specs.Prelude.{position, unwrap_or, slice_get, filter, option_map, is_some}
 use Rattle.std.specs.List.{position_or_len}
 use Rattle.mps_lex.specs.Kinds.{Name}
-use Rattle.mps_pairs.specs.declared.deck.Column.{Column}
-use Rattle.mps_pairs.specs.declared.deck.Row as rows
-use Rattle.mps_pairs.specs.declared.deck.Entry.{Entry}
-use Rattle.mps_pairs.specs.declared.deck.PairLine.{PairLine}
-use Rattle.mps_pairs.specs.declared.deck.Deck.{Deck}
-use Rattle.mps_pairs.specs.Spelling.{RowLine, Given, is_n, kept, deck_row}
+use Rattle.decks.specs.declared.deck.Column.{Column}
+use Rattle.decks.specs.declared.deck.Row as rows
+use Rattle.decks.specs.declared.deck.Entry.{Entry}
+use Rattle.decks.specs.declared.deck.PairLine.{PairLine}
+use Rattle.decks.specs.declared.deck.Deck.{Deck}
+use Rattle.decks.specs.Spelling.{RowLine, Given, is_n, kept, deck_row}
 use Rattle.mps_pairs.specs.Known.{Known, bounds_with, deck_from}
-use Rattle.mps_pairs.specs.Bounds.{is_below_zero, lesser, below_zero_line}
+use Rattle.decks.specs.Bounds.{is_below_zero, lesser, below_zero_line}
 
 pub place_or : {X : Type 0} (p : X → Bool) (xs : List X) (o : Option ℕ) (r : ℕ) → o ≡ position p xs → r ≡ unwrap_or o (length xs) → r ≡ position_or_len p xs
 place_or p xs o r eo er = er ∙ ap (λ (x : Option ℕ). unwrap_or x (length xs)) eo ∙ by (ltb (position_or_len p xs) (length xs)) refl

@@ -8,23 +8,23 @@ use Rattle.mps_lex.specs.declared.line.Section.{Section}
 use Rattle.mps_lex.specs.declared.line.Section.TheVariants as section
 use Rattle.mps_lex.specs.declared.line.LineKind.{LineKind}
 use Rattle.mps_lex.specs.declared.line.LineKind.TheVariants.{Blank, Comment, Head, LeftOut, Unknown, Entry}
-use Rattle.mps_pairs.specs.declared.fault.DeckWhy.{DeckWhy}
-use Rattle.mps_pairs.specs.declared.fault.DeckWhy.TheVariants.{SectionOrder, UnknownSection, LeftOutSection}
+use Rattle.decks.specs.declared.fault.DeckWhy.{DeckWhy}
+use Rattle.decks.specs.declared.fault.DeckWhy.TheVariants.{SectionOrder, UnknownSection, LeftOutSection}
 use Rattle.mps_pairs.specs.declared.fault.Fault.{Fault}
 use Rattle.mps_pairs.specs.declared.fault.Fault.TheVariants as faults
-use Rattle.mps_pairs.specs.declared.fault.DeckFault.{DeckFault}
-use Rattle.mps_pairs.specs.declared.fault.DeckFault.TheVariants as deck_faults
-use Rattle.mps_pairs.specs.declared.deck.Deck.{Deck}
-use Rattle.mps_pairs.specs.declared.deck.Column.{Column}
-use Rattle.mps_pairs.specs.declared.deck.Entry as entries
-use Rattle.mps_pairs.specs.declared.deck.PairLine.{PairLine}
+use Rattle.decks.specs.declared.fault.DeckFault.{DeckFault}
+use Rattle.decks.specs.declared.fault.DeckFault.TheVariants as deck_faults
+use Rattle.decks.specs.declared.deck.Deck.{Deck}
+use Rattle.decks.specs.declared.deck.Column.{Column}
+use Rattle.decks.specs.declared.deck.Entry as entries
+use Rattle.decks.specs.declared.deck.PairLine.{PairLine}
 use Rattle.mps_pairs.specs.declared.sections.Course.{Course}
-use Rattle.mps_pairs.specs.Decks.{zero}
-use Rattle.mps_pairs.specs.Names.{has, add_name, named, put}
-use Rattle.mps_pairs.specs.Sections.{Open, same_section, is_begun, open_behind, open_rank, slice, may_follow}
-use Rattle.mps_pairs.specs.Spelling.{field, is_n, RowLine, row_line, rows_of, kept, NamedEntry, entries_on, entries_in, column_names, rows_in, entry_of, deck_entries, Given, given_set, givens_on, givens_in, first_set, deck_row, pair_names, pair_of, deck_pairs}
-use Rattle.mps_pairs.specs.Bounds.{Setting, setting_on, settings_in, bound_set, sets_lower, sets_upper, is_fx, lower_by, upper_by, column_bounds, bounded, below_zero_line}
-use Rattle.mps_pairs.specs.Faults.{◌or◌, fault_if, row_fault, column_fault, givens_fault, bound_fault, pair_fault, Found, named_at, end_fault}
+use Rattle.decks.specs.Decks.{zero}
+use Rattle.decks.specs.Names.{has, add_name, named, put}
+use Rattle.decks.specs.Sections.{Open, same_section, is_begun, open_behind, open_rank, slice, may_follow}
+use Rattle.decks.specs.Spelling.{field, is_n, RowLine, row_line, rows_of, kept, NamedEntry, entries_on, entries_in, column_names, rows_in, entry_of, deck_entries, Given, given_set, givens_on, givens_in, first_set, deck_row, pair_names, pair_of, deck_pairs}
+use Rattle.decks.specs.Bounds.{Setting, setting_on, settings_in, bound_set, sets_lower, sets_upper, is_fx, lower_by, upper_by, column_bounds, bounded, below_zero_line}
+use Rattle.decks.specs.Faults.{◌or◌, fault_if, row_fault, column_fault, givens_fault, bound_fault, pair_fault, Found, named_at, end_fault}
 
 -- ---- the order of heads
 

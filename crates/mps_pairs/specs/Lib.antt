@@ -1,13 +1,3 @@
-pub mod Decks
-pub mod Names
-pub mod Numbers
-pub mod Sections
-pub mod Bounds
-pub mod Spelling
-pub mod Faults
-pub mod Texts
-pub mod After
-pub mod Whys
 pub mod Known
 pub mod Seen
 pub mod Fields

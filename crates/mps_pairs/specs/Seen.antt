@@ -3,7 +3,7 @@ use Rattle.std.specs.Prelude.{ℕ, List}
 use Rattle.std.specs.Borrow.{Bor}
 use Rattle.mps_lex.specs.Kinds.{Name}
 use Rattle.mps_pairs.specs.declared.rows.RowState.{RowState}
-use Rattle.mps_pairs.specs.Spelling.{RowLine}
+use Rattle.decks.specs.Spelling.{RowLine}
 
 -- a name that a slice shows, with what is known of it
 abbrev pub shown_entry : {T : Type 0} → Bor (List ℕ) × T → Name × T

@@ -1,10 +1,10 @@
 //! What stands behind a deck.
 ghost use Rattle.std.specs.Prelude.{◌≡◌, ◌-◌, ◌<◌, ◌^◌, ℕ, MatchResult, None, Some, length};
-ghost use Rattle.mps_pairs.specs.declared.fault.DeckWhy.TheVariants.{AfterEnd};
-ghost use Rattle.mps_pairs.specs.declared.fault.DeckFault.TheVariants.{At};
-ghost use Rattle.mps_pairs.specs.After.{first_after};
+ghost use Rattle.decks.specs.declared.fault.DeckWhy.TheVariants.{AfterEnd};
+ghost use Rattle.decks.specs.declared.fault.DeckFault.TheVariants.{At};
+ghost use Rattle.decks.specs.After.{first_after};
 
-use crate::fault::{DeckFault, DeckWhy};
+use decks::{DeckFault, DeckWhy};
 use mps_lex::{first_piece, is_passed};
 
 /// Whether the lines of a text that begin at a place or behind it are all blank or comments. It

@@ -1,41 +1,24 @@
 //! Bounds of columns.
 ghost use Rattle.std.specs.Prelude.{◌≡◌, ◌∷◌, [], true, false, not, if◌then◌else◌, IfOk, IfErr, OnOk, None, Some, map, option_map};
 ghost use Rattle.mps_lex.specs.Shown.{shown};
-ghost use Rattle.mps_pairs.specs.declared.fault.DeckWhy.TheVariants.{UnknownName};
-ghost use Rattle.mps_pairs.specs.Decks.{IsDeckNumber};
-ghost use Rattle.mps_pairs.specs.Names.{has};
-ghost use Rattle.mps_pairs.specs.Bounds.{bound_kind, takes_value, bound_words, bound_value, set_in, setting_with, sets_lower, sets_upper, is_fx, lower_by, upper_by, is_below_zero, lesser, below_zero_line};
-ghost use Rattle.mps_pairs.specs.Faults.{◌or◌, fault_if, set_fault, unknown_kind_fault, bound_value_fault, bound_words_fault, bound_fault};
+ghost use Rattle.decks.specs.declared.fault.DeckWhy.TheVariants.{UnknownName};
+ghost use Rattle.decks.specs.Decks.{IsDeckNumber};
+ghost use Rattle.decks.specs.Names.{has};
+ghost use Rattle.decks.specs.Bounds.{bound_kind, takes_value, bound_words, bound_value, set_in, setting_with, sets_lower, sets_upper, is_fx, lower_by, upper_by, is_below_zero, lesser, below_zero_line};
+ghost use Rattle.decks.specs.Faults.{◌or◌, fault_if, set_fault, unknown_kind_fault, bound_value_fault, bound_words_fault, bound_fault};
 ghost use Rattle.mps_pairs.specs.Known.{known_bounds, bounds_with, free_column, set_or, with_setting, with_settings, with_bound, Judges};
 ghost use Rattle.mps_pairs.specs.Fields.{seen_fields};
 
-use crate::deck::{Bound, Column};
-use crate::fault::{DeckWhy, Fault};
+use crate::fault::Fault;
 use crate::givens::set_fault;
 use crate::names::{NameMap, Names};
 use crate::numbers::{is_negative, lower_end, number_of, upper_end};
+use decks::{Bound, BoundKind, Column, DeckWhy};
 use lp_nums::Frac;
 use std::alloc::Global;
 use std::marker::Model;
 
-/// The kind of a line of BOUNDS.
-#[derive(Clone, Copy, Debug, PartialEq, Eq)]
-pub enum BoundKind {
-    /// Sets the upper bound.
-    Up,
-    /// Sets the lower bound.
-    Lo,
-    /// Sets both bounds.
-    Fx,
-    /// Removes both bounds.
-    Fr,
-    /// Removes the lower bound.
-    Mi,
-    /// Removes the upper bound.
-    Pl,
-}
-
-#[tactic(auto, unfolding(crate::specs::Bounds::bound_kind))]
+#[tactic(auto, unfolding(decks::specs::Bounds::bound_kind))]
 pub fn bound_kind(word: &[u8]) -> Option<BoundKind>
     ensures { result ≡ bound_kind word.now }
 {

@@ -1,17 +1,17 @@
 //! The columns of a text and the entries of the matrix.
 ghost use Rattle.std.specs.Prelude.{◌≡◌, ◌≤◌, ◌+◌, ℕ, List, false, None, Some, ◌∷◌, [], ◌++◌, IfOk, IfErr, OnOk, length, map};
 ghost use Rattle.mps_lex.specs.Shown.{shown};
-ghost use Rattle.mps_pairs.specs.Names.{has, place, add_name};
-ghost use Rattle.mps_pairs.specs.Faults.{◌or◌, marker_fault, split_fault, entry_fault, two_entries_fault, full_fault, column_words_fault, column_fault};
-ghost use Rattle.mps_pairs.specs.Numbers.{value_of};
-ghost use Rattle.mps_pairs.specs.Spelling.{field, entry_at, number_of_row, row_named};
+ghost use Rattle.decks.specs.Names.{has, place, add_name};
+ghost use Rattle.decks.specs.Faults.{◌or◌, marker_fault, split_fault, entry_fault, two_entries_fault, full_fault, column_words_fault, column_fault};
+ghost use Rattle.decks.specs.Numbers.{value_of};
+ghost use Rattle.decks.specs.Spelling.{field, entry_at, number_of_row, row_named};
 ghost use Rattle.mps_pairs.specs.Known.{known_columns, rows_here, with_column, Judges};
 
-use crate::deck::Entry;
-use crate::fault::{DeckWhy, Fault};
+use crate::fault::Fault;
 use crate::names::Names;
 use crate::rows::{RowTable, RowValue, row_value};
-use lp_base::Sequence;
+use decks::{DeckWhy, Entry};
+use lp_base::{MOST_COLUMNS, MOST_ENTRIES, Sequence};
 use std::alloc::Global;
 use std::marker::Model;
 use std::mem::replace;
@@ -28,13 +28,14 @@ pub struct ColumnTable<'a> {
 
 impl<'a> Model for ColumnTable<'a> {
     ghost use Rattle.std.specs.Prelude.{◌≤◌, length};
+    ghost use Rattle.lp_base.specs.declared.limits.TheConstants.{MOST_COLUMNS, MOST_ENTRIES};
     ghost use Rattle.mps_pairs.specs.Known.{KnownColumns};
 
     ghost Value = { KnownColumns };
 
     ghost view = { λ t. record { names = t.names; here = t.here; count = t.count; entries = t.entries } };
 
-    ghost invariant = { λ t. (length t.names ≤ 1000) × (t.count ≤ 200000) };
+    ghost invariant = { λ t. (length t.names ≤ MOST_COLUMNS) × (t.count ≤ MOST_ENTRIES) };
 }
 
 fn marker_fault(fields: &[&[u8]]) -> Option<DeckWhy>
@@ -66,7 +67,7 @@ impl<'a> ColumnTable<'a> {
     /// The names of the columns.
     pub fn names(&self) -> &Names<'a>
         ensures names { result.now ≡ self.now.names }
-        ensures few { length result.now ≤ 1000 }
+        ensures few { length result.now ≤ MOST_COLUMNS }
     {
         &self.names
     }
@@ -121,11 +122,11 @@ impl<'a> ColumnTable<'a> {
         requires few { more ≤ 2 }
         requires index { index ≡ place self.now.names column.now }
         ensures fault { result ≡ full_fault self.now.names self.now.count column.now more }
-        ensures names { result ≡ None → length (add_name self.now.names column.now) ≤ 1000 }
-        ensures count { result ≡ None → self.now.count + more ≤ 200000 }
+        ensures names { result ≡ None → length (add_name self.now.names column.now) ≤ MOST_COLUMNS }
+        ensures count { result ≡ None → self.now.count + more ≤ MOST_ENTRIES }
     {
-        if (self.names.is_behind(index, column) && self.names.len() >= 1000)
-            || self.count + more > 200_000
+        if (self.names.is_behind(index, column) && self.names.len() >= MOST_COLUMNS)
+            || (self.count + more) as usize > MOST_ENTRIES
         {
             return Some(DeckWhy::TooMany);
         }
@@ -135,7 +136,7 @@ impl<'a> ColumnTable<'a> {
     // Adds the column's name, if it is new.
     fn add_name(&mut self, index: usize, column: &'a [u8]) -> Result<(), Fault>
         requires index { index ≡ place self.old.names column.now }
-        requires room { length (add_name self.old.names column.now) ≤ 1000 }
+        requires room { length (add_name self.old.names column.now) ≤ MOST_COLUMNS }
         ensures fault { Judges result None }
         ensures ok { OnOk result (self.new ≡ record self.old { names = add_name self.old.names column.now }) }
     {
@@ -147,7 +148,7 @@ impl<'a> ColumnTable<'a> {
 
     // Adds the entry of a row, unless the row is dropped.
     fn add(&mut self, column: u32, found: RowValue) -> Result<(), Fault>
-        requires { self.old.count + 1 ≤ 200000 }
+        requires { self.old.count + 1 ≤ MOST_ENTRIES }
         ensures fault { Judges result None }
         ensures ok { OnOk result (self.new ≡ record self.old { count = self.old.count + 1; entries = self.old.entries ++ entry_at column found.value found.number }) }
     {
@@ -177,8 +178,8 @@ impl<'a> ColumnTable<'a> {
         ensures number { IfOk result (λ x. x.number ≡ number_of_row (row_named rows.now row.now)) }
         ensures value { IfOk result (λ x. x.value ≡ value_of value.now) }
         ensures ok { OnOk result (self.new ≡ record self.old { here = self.old.here ++ row.now ∷ [] }) }
-        ensures few { OnOk result (length (add_name self.old.names column.now) ≤ 1000) }
-        ensures room { OnOk result (self.old.count + 1 ≤ 200000) }
+        ensures few { OnOk result (length (add_name self.old.names column.now) ≤ MOST_COLUMNS) }
+        ensures room { OnOk result (self.old.count + 1 ≤ MOST_ENTRIES) }
     {
         match self.take_here(rows, row, value) {
             Err(fault) => Err(fault),
@@ -194,8 +195,8 @@ impl<'a> ColumnTable<'a> {
     // Adds the column, if it is new, and its entry.
     fn add_one(&mut self, index: usize, column: &'a [u8], found: RowValue) -> Result<(), Fault>
         requires index { index ≡ place self.old.names column.now }
-        requires few { length (add_name self.old.names column.now) ≤ 1000 }
-        requires room { self.old.count + 1 ≤ 200000 }
+        requires few { length (add_name self.old.names column.now) ≤ MOST_COLUMNS }
+        requires room { self.old.count + 1 ≤ MOST_ENTRIES }
         ensures fault { Judges result None }
         ensures ok { OnOk result (self.new ≡ record self.old { names = add_name self.old.names column.now; count = self.old.count + 1; entries = self.old.entries ++ entry_at index found.value found.number }) }
     {
@@ -260,8 +261,8 @@ impl<'a> ColumnTable<'a> {
         second: RowValue,
     ) -> Result<(), Fault>
         requires index { index ≡ place self.old.names column.now }
-        requires few { length (add_name self.old.names column.now) ≤ 1000 }
-        requires room { self.old.count + 2 ≤ 200000 }
+        requires few { length (add_name self.old.names column.now) ≤ MOST_COLUMNS }
+        requires room { self.old.count + 2 ≤ MOST_ENTRIES }
         ensures fault { Judges result None }
         ensures ok { OnOk result (self.new ≡ record self.old { names = add_name self.old.names column.now; count = (self.old.count + 1) + 1; entries = (self.old.entries ++ entry_at index first.value first.number) ++ entry_at index second.value second.number }) }
     {

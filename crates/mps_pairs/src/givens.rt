@@ -1,14 +1,15 @@
 //! What lines of RHS or RANGES give for rows.
 ghost use Rattle.std.specs.Prelude.{◌≡◌, false, ◌∷◌, [], ◌++◌, OnOk, None, is_some, map, option_map};
 ghost use Rattle.mps_lex.specs.Shown.{shown};
-ghost use Rattle.mps_pairs.specs.Names.{named};
-ghost use Rattle.mps_pairs.specs.Faults.{◌or◌, set_fault, one_given_fault, two_givens_fault, givens_fault};
-ghost use Rattle.mps_pairs.specs.Spelling.{given};
+ghost use Rattle.decks.specs.Names.{named};
+ghost use Rattle.decks.specs.Faults.{◌or◌, set_fault, one_given_fault, two_givens_fault, givens_fault};
+ghost use Rattle.decks.specs.Spelling.{given};
 ghost use Rattle.mps_pairs.specs.Known.{known_givens, with_givens, with_set, set_or, Judges};
 
-use crate::fault::{DeckWhy, Fault};
+use crate::fault::Fault;
 use crate::names::NameMap;
 use crate::rows::{RowTable, row_value};
+use decks::DeckWhy;
 use lp_nums::Frac;
 use std::alloc::Global;
 use std::marker::Model;

@@ -1,7 +1,7 @@
 //! Tables of names, each once, in the order of their first standing.
 ghost use Rattle.std.specs.Prelude.{◌≡◌, ◌<◌, ◌≤◌, false, [], ◌∷◌, ◌++◌, OnOk, OnErr, length, not, option_map, slice_get};
 ghost use Rattle.mps_lex.specs.Shown.{shown};
-ghost use Rattle.mps_pairs.specs.Names.{place, has, add_name, named, put};
+ghost use Rattle.decks.specs.Names.{place, has, add_name, named, put};
 ghost use Rattle.mps_pairs.specs.Seen.{shown_entry};
 
 use indexmap::{IndexMap, IndexSet};

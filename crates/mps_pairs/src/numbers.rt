@@ -1,9 +1,10 @@
 //! Numbers of a text.
 ghost use Rattle.std.specs.Prelude.{◌≡◌, Some, None, IfOk, IfErr};
-ghost use Rattle.mps_pairs.specs.Decks.{IsDeckNumber};
-ghost use Rattle.mps_pairs.specs.Numbers.{value_of, text_fault, is_zero, is_negative, upper_end, lower_end};
+ghost use Rattle.decks.specs.Decks.{IsDeckNumber};
+ghost use Rattle.decks.specs.Numbers.{value_of, text_fault, is_zero, is_negative, upper_end, lower_end};
 
-use crate::fault::DeckWhy;
+use decks::DeckWhy;
+use lp_base::NO_BOUND_FROM;
 use lp_nums::{Frac, NumberFault, read_decimal};
 
 /// The number that a text stands for.
@@ -40,14 +41,12 @@ pub fn is_negative(end: Option<Frac>) -> bool
     }
 }
 
-const FAR: i128 = 100_000_000_000_000_000_000;
-
 /// The upper bound of a value: none from 10^20 on.
 pub fn upper_end(value: Frac) -> Option<Frac>
     requires { IsDeckNumber value }
     ensures { result ≡ upper_end value }
 {
-    if FAR * value.den() <= value.num() {
+    if NO_BOUND_FROM as i128 * value.den() <= value.num() {
         return None;
     }
     Some(value)
@@ -58,7 +57,7 @@ pub fn lower_end(value: Frac) -> Option<Frac>
     requires { IsDeckNumber value }
     ensures { result ≡ lower_end value }
 {
-    if value.num() <= -(FAR * value.den()) {
+    if value.num() <= -(NO_BOUND_FROM as i128 * value.den()) {
         return None;
     }
     Some(value)

@@ -1,20 +1,20 @@
 //! Pairs of quantities.
 ghost use Rattle.std.specs.Prelude.{◌≡◌, ◌≤◌, ◌∷◌, [], ◌++◌, false, IfOk, IfErr, OnOk, None, Some, length, map, unwrap_or};
 ghost use Rattle.mps_lex.specs.Shown.{shown};
-ghost use Rattle.mps_pairs.specs.declared.deck.Quantity.TheVariants.{Col, Row};
-ghost use Rattle.mps_pairs.specs.Names.{has, place};
-ghost use Rattle.mps_pairs.specs.Spelling.{is_col, number_of_row, row_named, quantity_of};
-ghost use Rattle.mps_pairs.specs.Decks.{is_inequality};
-ghost use Rattle.mps_pairs.specs.Faults.{◌or◌, is_kind, is_free_from_zero, column_quantity_fault, row_quantity_fault, quantity_fault, pair_front_fault, quantities_fault, many_pairs_fault, pair_fault};
+ghost use Rattle.decks.specs.declared.deck.Quantity.TheVariants.{Col, Row};
+ghost use Rattle.decks.specs.Names.{has, place};
+ghost use Rattle.decks.specs.Spelling.{is_col, number_of_row, row_named, quantity_of};
+ghost use Rattle.decks.specs.Decks.{is_inequality};
+ghost use Rattle.decks.specs.Faults.{◌or◌, is_kind, is_free_from_zero, column_quantity_fault, row_quantity_fault, quantity_fault, pair_front_fault, quantities_fault, many_pairs_fault, pair_fault};
 ghost use Rattle.mps_pairs.specs.Known.{bounds_with, known_pairs, with_pair, Judges};
 
 use crate::bounds::BoundTable;
-use crate::deck::{Column, Letter, PairLine, Quantity};
-use crate::fault::{DeckWhy, Fault};
+use crate::fault::Fault;
 use crate::names::Names;
 use crate::numbers::is_zero;
 use crate::rows::RowTable;
-use lp_base::Sequence;
+use decks::{Column, DeckWhy, Letter, PairLine, Quantity};
+use lp_base::{MOST_COLUMNS, MOST_PAIRS, Sequence};
 use std::alloc::Global;
 use std::marker::Model;
 use std::mem::replace;
@@ -66,7 +66,7 @@ fn column_quantity<'a>(
     bounds: &BoundTable<'a>,
     name: &'a [u8],
 ) -> Result<Quantity, DeckWhy>
-    requires { length columns.now ≤ 1000 }
+    requires { length columns.now ≤ MOST_COLUMNS }
     ensures right { IfOk result (λ q. column_quantity_fault columns.now (bounds_with bounds.now.columns) name.now ≡ None) }
     ensures value { IfOk result (λ q. q ≡ Col (place columns.now name.now)) }
     ensures fault { IfErr result (λ w. column_quantity_fault columns.now (bounds_with bounds.now.columns) name.now ≡ Some w) }
@@ -104,7 +104,7 @@ fn quantity<'a>(
     kind: &'a [u8],
     name: &'a [u8],
 ) -> Result<Quantity, DeckWhy>
-    requires { length columns.now ≤ 1000 }
+    requires { length columns.now ≤ MOST_COLUMNS }
     ensures right { IfOk result (λ q. quantity_fault rows.now columns.now (bounds_with bounds.now.columns) kind.now name.now ≡ None) }
     ensures value { IfOk result (λ q. q ≡ quantity_of rows.now columns.now kind.now name.now) }
     ensures fault { IfErr result (λ w. quantity_fault rows.now columns.now (bounds_with bounds.now.columns) kind.now name.now ≡ Some w) }
@@ -126,7 +126,7 @@ fn quantities<'a>(
     other: &'a [u8],
     second: &'a [u8],
 ) -> Result<PairLine, DeckWhy>
-    requires { length columns.now ≤ 1000 }
+    requires { length columns.now ≤ MOST_COLUMNS }
     ensures right { IfOk result (λ q. quantities_fault rows.now columns.now (bounds_with bounds.now.columns) kind.now name.now other.now second.now ≡ None) }
     ensures value { IfOk result (λ q. q ≡ record { a = quantity_of rows.now columns.now kind.now name.now; b = quantity_of rows.now columns.now other.now second.now }) }
     ensures fault { IfErr result (λ w. quantities_fault rows.now columns.now (bounds_with bounds.now.columns) kind.now name.now other.now second.now ≡ Some w) }
@@ -175,7 +175,7 @@ impl<'a> PairTable<'a> {
         ensures fault { Judges result (many_pairs_fault self.old.names) }
         ensures ok { OnOk result (self.new ≡ record { names = self.old.names ++ name.now ∷ []; pairs = self.old.pairs ++ pair ∷ [] }) }
     {
-        if self.names.len() >= 512 {
+        if self.names.len() >= MOST_PAIRS {
             return Err(Fault::Of(DeckWhy::TooMany));
         }
         self.names.push(name)?;
@@ -196,7 +196,7 @@ impl<'a> PairTable<'a> {
         other: &'a [u8],
         second: &'a [u8],
     ) -> Result<(), Fault>
-        requires few { length columns.now ≤ 1000 }
+        requires few { length columns.now ≤ MOST_COLUMNS }
         requires fresh { has self.old.names name.now ≡ false }
         ensures fault { Judges result (quantities_fault rows.now columns.now (bounds_with bounds.now.columns) kind.now first.now other.now second.now or many_pairs_fault self.old.names) }
         ensures ok { OnOk result (self.new ≡ with_pair rows.now columns.now self.old (name.now ∷ kind.now ∷ first.now ∷ other.now ∷ second.now ∷ [])) }
@@ -219,7 +219,7 @@ impl<'a> PairTable<'a> {
         other: &'a [u8],
         second: &'a [u8],
     ) -> Result<(), Fault>
-        requires few { length columns.now ≤ 1000 }
+        requires few { length columns.now ≤ MOST_COLUMNS }
         ensures fault { Judges result (pair_fault rows.now columns.now (bounds_with bounds.now.columns) self.old.names (name.now ∷ kind.now ∷ first.now ∷ other.now ∷ second.now ∷ [])) }
         ensures ok { OnOk result (self.new ≡ with_pair rows.now columns.now self.old (name.now ∷ kind.now ∷ first.now ∷ other.now ∷ second.now ∷ [])) }
     {
@@ -237,7 +237,7 @@ impl<'a> PairTable<'a> {
         bounds: &BoundTable<'a>,
         fields: &[&'a [u8]],
     ) -> Result<(), Fault>
-        requires few { length columns.now ≤ 1000 }
+        requires few { length columns.now ≤ MOST_COLUMNS }
         ensures fault { Judges result (pair_fault rows.now columns.now (bounds_with bounds.now.columns) self.old.names (map shown fields.now)) }
         ensures ok { OnOk result (self.new ≡ with_pair rows.now columns.now self.old (map shown fields.now)) }
     {

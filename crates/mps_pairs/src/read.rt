@@ -2,19 +2,19 @@
 ghost use Rattle.std.specs.Prelude.{◌≡◌, ◌+◌, ◌-◌, ◌<◌, ◌≤◌, ◌^◌, OnOk, IfOk, IfErr, Ok, Err, Option, None, Some, true, ℕ, List, ◌⊎◌, [], ◌++◌, length, take};
 ghost use Rattle.mps_lex.specs.Lines.{ends_with, line_of, lines_of};
 ghost use Rattle.mps_lex.specs.Shown.{seen_line};
-ghost use Rattle.mps_pairs.specs.declared.deck.Deck as spelled;
-ghost use Rattle.mps_pairs.specs.declared.fault.DeckWhy as why;
-ghost use Rattle.mps_pairs.specs.declared.fault.DeckWhy.TheVariants.{LeftOutSection};
-ghost use Rattle.mps_pairs.specs.declared.fault.DeckFault.TheVariants.{At};
-ghost use Rattle.mps_pairs.specs.Decks.{IsDeck};
-ghost use Rattle.mps_pairs.specs.Faults.{◌or◌, named_at};
-ghost use Rattle.mps_pairs.specs.Texts.{Spells, Fails, FailsAs, ends_deck, answer, Refuses, Gives};
+ghost use Rattle.decks.specs.declared.deck.Deck as spelled;
+ghost use Rattle.decks.specs.declared.fault.DeckWhy as why;
+ghost use Rattle.decks.specs.declared.fault.DeckWhy.TheVariants.{LeftOutSection};
+ghost use Rattle.decks.specs.declared.fault.DeckFault.TheVariants.{At};
+ghost use Rattle.decks.specs.Decks.{IsDeck};
+ghost use Rattle.decks.specs.Faults.{◌or◌, named_at};
+ghost use Rattle.decks.specs.Texts.{Spells, Fails, FailsAs, ends_deck, answer, Refuses, Gives};
 ghost use Rattle.mps_pairs.specs.Known.{Tells, TellsAt, JudgesAt, known, course_of, begin, next_course, course_fault, known_fault, known_end_fault, line_fault, with_data, next_known, deck_from};
 
-use crate::deck::Deck;
-use crate::fault::{DeckFault, DeckWhy, Fault};
+use crate::fault::Fault;
 use crate::sections::Course;
 use crate::tables::Tables;
+use decks::{Deck, DeckFault, DeckWhy};
 use mps_lex::{LineKind, Section, SplitLine, first_piece, line_of};
 use std::alloc::{AllocError, Global};
 
@@ -229,29 +229,3 @@ pub fn read_deck(alloc: Global, text: &[u8]) -> Result<(Deck, usize), DeckFault>
 {
     answer(alloc, text)
 }
-
-/// A text spells at most one deck, up to one place.
-pub fn spelled_once()
-    ensures { (text : List ℕ) (d e : spelled.Deck) (p q : ℕ) → Spells text d p → Spells text e q → (d ≡ e) × (p ≡ q) }
-{}
-
-/// The place behind the lines that spell a deck is in the text. These lines alone spell the deck,
-/// and where an LF ends them, whatever follows does not matter.
-pub fn spelled_by_first_lines()
-    ensures within { (text : List ℕ) (d : spelled.Deck) (p : ℕ) → Spells text d p → p ≤ length text }
-    ensures alone { (text : List ℕ) (d : spelled.Deck) (p : ℕ) → Spells text d p → Spells (take p text) d p }
-    ensures ended { (text : List ℕ) (d : spelled.Deck) (p : ℕ) → Spells text d p → p < length text → ends_with 10 (take p text) ≡ true }
-    ensures whatever_follows { (text more : List ℕ) (d : spelled.Deck) (p : ℕ) → Spells text d p → ends_with 10 (take p text) ≡ true → Spells (take p text ++ more) d p }
-{}
-
-/// A text has a first fault exactly where it spells no deck, and it has at most one.
-pub fn spelled_or_faulty()
-    ensures some { (text : List ℕ) → ((d : spelled.Deck) × (p : ℕ) × Spells text d p) ⊎ ((line : ℕ) × (w : why.DeckWhy) × Fails text line w) }
-    ensures not_both { (text : List ℕ) (d : spelled.Deck) (p line : ℕ) (w : why.DeckWhy) → Spells text d p → Fails text line w → ⊥ }
-    ensures one_fault { (text : List ℕ) (m n : ℕ) (v w : why.DeckWhy) → Fails text m v → Fails text n w → (m ≡ n) × (v ≡ w) }
-{}
-
-/// What a text spells keeps the facts of a deck.
-pub fn spelled_decks_keep()
-    ensures { (text : List ℕ) (d : spelled.Deck) (p : ℕ) → Spells text d p → IsDeck d }
-{}

@@ -1,16 +1,17 @@
 //! The rows that lines of ROWS name, and what is judged of a row with a value.
 ghost use Rattle.std.specs.Prelude.{◌≡◌, ◌≤◌, ℕ, List, None, Some, [], ◌∷◌, ◌++◌, IfOk, IfErr, OnOk, is_none, length, option_map, slice_get, map};
 ghost use Rattle.mps_lex.specs.Shown.{shown};
-ghost use Rattle.mps_pairs.specs.Numbers.{value_of};
-ghost use Rattle.mps_pairs.specs.Faults.{is_letter, many_rows_fault, row_fault, entry_fault};
+ghost use Rattle.decks.specs.Numbers.{value_of};
+ghost use Rattle.decks.specs.Faults.{is_letter, many_rows_fault, row_fault, entry_fault};
 ghost use Rattle.mps_pairs.specs.Known.{Judges};
-ghost use Rattle.mps_pairs.specs.Spelling.{RowLine, letter_of, is_n, has_objective, kept, number_behind, number_of_row, row_line, other_rows, row_named};
+ghost use Rattle.decks.specs.Spelling.{RowLine, letter_of, is_n, has_objective, kept, number_behind, number_of_row, row_line, other_rows, row_named};
 ghost use Rattle.mps_pairs.specs.Seen.{seen_row, shown_row, state_of};
 
-use crate::deck::Letter;
-use crate::fault::{DeckWhy, Fault};
+use crate::fault::Fault;
 use crate::names::NameMap;
 use crate::numbers::number_of;
+use decks::{DeckWhy, Letter};
+use lp_base::MOST_ROWS;
 use lp_nums::Frac;
 use std::alloc::{AllocError, Global};
 use std::marker::Model;
@@ -33,17 +34,18 @@ pub struct RowTable<'a> {
 
 impl<'a> Model for RowTable<'a> {
     ghost use Rattle.std.specs.Prelude.{◌≡◌, ◌≤◌, ◌+◌, List, length, map, if◌then◌else◌};
-    ghost use Rattle.mps_pairs.specs.Spelling.{RowLine, other_rows, has_objective, kept};
+    ghost use Rattle.decks.specs.Spelling.{RowLine, other_rows, has_objective, kept};
 
     ghost Value = { List RowLine };
 
     ghost use Rattle.mps_pairs.specs.Seen.{seen_row};
+    ghost use Rattle.lp_base.specs.declared.limits.TheConstants.{MOST_ROWS};
 
     ghost view = { λ t. map seen_row t.held };
 
-    // The counts are those of the rows, of which at most 2,000 are no N rows.
+    // The counts are those of the rows, of which at most MOST_ROWS are no N rows.
     ghost invariant = { λ t. (t.others ≡ other_rows (map seen_row t.held)) × (t.objective ≡ has_objective (map seen_row t.held))
-        × (t.others ≤ 2000) × (length (kept (map seen_row t.held)) ≡ t.others + (if t.objective then 1 else 0)) };
+        × (t.others ≤ MOST_ROWS) × (length (kept (map seen_row t.held)) ≡ t.others + (if t.objective then 1 else 0)) };
 }
 
 fn is_letter(word: &[u8]) -> bool
@@ -122,9 +124,9 @@ impl<'a> RowTable<'a> {
 
     fn many_fault(&self, letter: &'a [u8]) -> Option<DeckWhy>
         ensures value { result ≡ many_rows_fault self.now letter.now }
-        ensures room { result ≡ None → (row : RowLine) → row.letter ≡ letter_of letter.now → other_rows (self.now ++ row ∷ []) ≤ 2000 }
+        ensures room { result ≡ None → (row : RowLine) → row.letter ≡ letter_of letter.now → other_rows (self.now ++ row ∷ []) ≤ MOST_ROWS }
     {
-        if !is_n(letter_of(letter)) && self.others >= 2000 {
+        if !is_n(letter_of(letter)) && self.others as usize >= MOST_ROWS {
             return Some(DeckWhy::TooMany);
         }
         None
@@ -133,7 +135,7 @@ impl<'a> RowTable<'a> {
     fn fault(&self, letter: &'a [u8], name: &'a [u8]) -> Option<DeckWhy>
         ensures value { result ≡ row_fault self.now (letter.now ∷ name.now ∷ []) }
         ensures fresh { result ≡ None → row_named self.now name.now ≡ None }
-        ensures room { result ≡ None → (row : RowLine) → row.letter ≡ letter_of letter.now → other_rows (self.now ++ row ∷ []) ≤ 2000 }
+        ensures room { result ≡ None → (row : RowLine) → row.letter ≡ letter_of letter.now → other_rows (self.now ++ row ∷ []) ≤ MOST_ROWS }
     {
         if !is_letter(letter) {
             return Some(DeckWhy::RowLetter);
@@ -155,7 +157,7 @@ impl<'a> RowTable<'a> {
 
     fn push(&mut self, name: &'a [u8], row: RowState) -> Result<(), AllocError>
         requires fresh { row_named self.old name.now ≡ None }
-        requires room { other_rows (self.old ++ seen_row (name.now, row) ∷ []) ≤ 2000 }
+        requires room { other_rows (self.old ++ seen_row (name.now, row) ∷ []) ≤ MOST_ROWS }
         requires number { row.number ≡ number_behind self.old row.letter }
         ensures { OnOk result (self.new ≡ self.old ++ seen_row (name.now, row) ∷ []) }
     {

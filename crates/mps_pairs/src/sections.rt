@@ -1,10 +1,10 @@
 //! The order of sections.
 ghost use Rattle.std.specs.Prelude.{◌≡◌, ◌||◌, Some, None, false};
-ghost use Rattle.mps_pairs.specs.Sections.{section_number, same_section, rank, open_rank, may_follow};
+ghost use Rattle.decks.specs.Sections.{section_number, same_section, rank, open_rank, may_follow};
 ghost use Rattle.mps_pairs.specs.Known.{begin, begun_by, course_fault};
 ghost use Rattle.mps_pairs.specs.declared.sections.Course as known;
 
-use crate::fault::DeckWhy;
+use decks::DeckWhy;
 use mps_lex::Section;
 
 /// What stands open, and which sections are begun of those that come in any order.

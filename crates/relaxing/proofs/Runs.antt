@@ -5,9 +5,9 @@ use Rattle.std.specs.Io.KnownBytes.{Appends}
 use Rattle.lpcc_case.specs.Instance.{Instance}
 use Rattle.lpcc_case.specs.Verdicts.{IsTrueOf}
 use Rattle.lpcc_case.specs.declared.verdict.Verdict.{Verdict}
-use Rattle.mps_pairs.specs.Decks.{IsDeck}
-use Rattle.mps_pairs.specs.Texts.{Spells}
-use Rattle.mps_pairs.specs.declared.deck.Deck as decks
+use Rattle.decks.specs.Decks.{IsDeck}
+use Rattle.decks.specs.Texts.{Spells}
+use Rattle.decks.specs.declared.deck.Deck as decks
 use Rattle.deck_case.specs.DeckCases.{HasCase}
 use Rattle.deck_case.specs.DeckVerdicts.{IsTrueOfDeck, relaxed, relaxed_deck}
 use Rattle.command.specs.Inputs.{IsReadAlone, SpellsAlone}

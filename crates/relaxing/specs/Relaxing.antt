@@ -6,8 +6,8 @@ use Rattle.lpcc_case.specs.Instance.{Instance}
 use Rattle.lpcc_case.specs.Verdicts.{IsTrueOf}
 use Rattle.lpcc_case.specs.declared.verdict.Verdict.{Verdict}
 use Rattle.lpcc_case.specs.declared.verdict.Verdict.TheVariants.{Optimal, Infeasible, Unbounded}
-use Rattle.mps_pairs.specs.declared.deck.Deck.{Deck}
-use Rattle.mps_pairs.specs.Texts.{Spells}
+use Rattle.decks.specs.declared.deck.Deck.{Deck}
+use Rattle.decks.specs.Texts.{Spells}
 use Rattle.deck_case.specs.DeckVerdicts.{IsTrueOfDeck, relaxed, relaxed_deck}
 use Rattle.orders.specs.Counts.{choose}
 use Rattle.walks.specs.Ends.{IsSpentAt, IsWideAt}

@@ -1,6 +1,6 @@
 use Rattle.std.proofs.Common.{◌∙◌, ap, arith, length, subst, sym}
 use Rattle.std.specs.List.{flat_map}
-use Rattle.mps_pairs.specs.declared.deck.Column.{Column}
+use Rattle.decks.specs.declared.deck.Column.{Column}
 use Rattle.deck_case.specs.Steps.{IsFirstOf}
 use Rattle.deck_case.specs.Wide.{wide_column}
 use Rattle.deck_case.proofs.BoundSteps.{behind, behind_is, columns_done, columns_more}

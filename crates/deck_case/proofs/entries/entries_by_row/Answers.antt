@@ -1,7 +1,7 @@
 use Rattle.std.proofs.Common.{◌∙◌, ap, arith, []}
 use Rattle.std.proofs.lemmas.List.{take_all}
 use Rattle.std.proofs.lemmas.List.FromFn.{fill_by_all}
-use Rattle.mps_pairs.specs.Decks.{entries_of}
+use Rattle.decks.specs.Decks.{entries_of}
 use Rattle.deck_case.proofs.entries.entries_by_row.Goals as goal
 
 pub returns : goal.returns

@@ -4,7 +4,7 @@ use Rattle.lp_base.proofs.Machine.{again_64}
 use Rattle.std.specs.Prelude.{slice_get}
 use Rattle.deck_case.specs.CaseParts.{coefficients, terms_of}
 use Rattle.deck_case.specs.Steps.{IsClearedBy}
-use Rattle.mps_pairs.specs.declared.deck.Entry.{Entry}
+use Rattle.decks.specs.declared.deck.Entry.{Entry}
 use Rattle.deck_case.proofs.TermSteps.{named_wide, term_step, term_wide}
 use Rattle.deck_case.proofs.entries.terms.Goals as goal
 

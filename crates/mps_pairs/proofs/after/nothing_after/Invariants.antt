@@ -1,6 +1,6 @@
 use Rattle.std.proofs.Common.{◌≡◌, ◌+◌, ◌≤◌, length}
 use Rattle.mps_lex.specs.Lines.{pieces, lines_from}
-use Rattle.mps_pairs.specs.After.{first_from, first_after}
+use Rattle.decks.specs.After.{first_from, first_after}
 use Rattle.mps_pairs.proofs.after.nothing_after.Given as goal
 
 abbrev pub invariant-loop-left : goal.invariant-loop-left

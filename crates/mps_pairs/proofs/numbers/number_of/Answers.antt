@@ -1,4 +1,4 @@
-use Rattle.mps_pairs.proofs.Values.{value_is}
+use Rattle.decks.proofs.Values.{value_is}
 use Rattle.mps_pairs.proofs.numbers.number_of.Goals as goal
 
 pub returns-in-Ok-clause-value : goal.returns-in-Ok-clause-value

@@ -1,5 +1,5 @@
-use Rattle.mps_pairs.proofs.Relations.{given_spelled, given_fails, given_only, given_only_fails}
-use Rattle.mps_pairs.proofs.Kept.{given_kept}
+use Rattle.decks.proofs.Relations.{given_spelled, given_fails, given_only, given_only_fails}
+use Rattle.decks.proofs.Kept.{given_kept}
 use Rattle.mps_pairs.proofs.read.read_deck.Goals as goal
 
 pub returns-clause-spelled : goal.returns-clause-spelled

@@ -1,5 +1,5 @@
 use Rattle.std.proofs.Common.{sym, ap, ◌∙◌, ◌++◌, ◌∷◌, [], rules}
-use Rattle.mps_pairs.specs.declared.deck.Column.{Column}
+use Rattle.decks.specs.declared.deck.Column.{Column}
 use Rattle.mps_lex.specs.Shown.{shown}
 use Rattle.mps_pairs.specs.Known.{bounds_with}
 use Rattle.mps_pairs.proofs.Walking.{column_more, untold}

@@ -1,6 +1,6 @@
 use Rattle.std.proofs.Common.{sym, ◌∙◌, rules}
 use Rattle.mps_pairs.specs.Seen.{shown_row, seen_row}
-use Rattle.mps_pairs.specs.Spelling.{deck_row}
+use Rattle.decks.specs.Spelling.{deck_row}
 use Rattle.mps_pairs.proofs.Walking.{row_more, untold}
 use Rattle.mps_pairs.proofs.tables.deck_rows.Goals as goal
 use Rattle.mps_pairs.proofs.tables.deck_rows.Goals.{in-Some+in_ok-add_row, in_default}

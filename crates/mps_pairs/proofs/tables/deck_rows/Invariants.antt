@@ -1,5 +1,5 @@
 use Rattle.std.proofs.Common.{◌≡◌, map, take}
-use Rattle.mps_pairs.specs.Spelling.{kept, deck_row}
+use Rattle.decks.specs.Spelling.{kept, deck_row}
 use Rattle.mps_pairs.proofs.tables.deck_rows.Given as goal
 
 abbrev pub invariant-loop-index : goal.invariant-loop-index

@@ -1,4 +1,4 @@
-use Rattle.mps_pairs.specs.Spelling.{is_n}
+use Rattle.decks.specs.Spelling.{is_n}
 use Rattle.mps_pairs.proofs.Walking.{place_or}
 use Rattle.mps_pairs.proofs.tables.objective_of.Goals as goal
 

@@ -2,8 +2,8 @@ use Rattle.std.proofs.Common.{◌<◌, ◌∙◌, ap, arith, subst, sym, pos, Al
 use Rattle.std.specs.Prelude.{IsTrue}
 use Rattle.std.specs.List.{enumerate_from}
 use Rattle.lp_base.specs.Ascending.{ascends_by}
-use Rattle.mps_pairs.specs.declared.deck.Entry.{Entry}
-use Rattle.mps_pairs.specs.Decks.{IsDeckNumber, entries_of, entry_column}
+use Rattle.decks.specs.declared.deck.Entry.{Entry}
+use Rattle.decks.specs.Decks.{IsDeckNumber, entries_of, entry_column}
 use Rattle.deck_case.specs.CaseParts.{cost_of, numbers_of, offset_of, scale_of}
 use Rattle.deck_case.specs.DeckCases.{before_row}
 use Rattle.deck_case.specs.DeckPoints.{row_at}

@@ -1,6 +1,6 @@
 use Rattle.std.proofs.Common.{◌≡◌, ◌<◌, [], length, map, pos, take}
 use Rattle.std.specs.List.{enumerate_from, range_with_len}
-use Rattle.mps_pairs.specs.Decks.{entries_of}
+use Rattle.decks.specs.Decks.{entries_of}
 use Rattle.deck_case.specs.CaseParts.{constraints_of_rows, cost_of, offset_of, scale_of}
 use Rattle.deck_case.specs.DeckCases.{before_row}
 use Rattle.deck_case.specs.DeckPoints.{row_at}

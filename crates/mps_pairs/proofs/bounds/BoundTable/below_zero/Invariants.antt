@@ -1,5 +1,5 @@
 use Rattle.std.proofs.Common.{◌≡◌, map, take}
-use Rattle.mps_pairs.specs.Bounds.{below_zero_line}
+use Rattle.decks.specs.Bounds.{below_zero_line}
 use Rattle.mps_pairs.proofs.bounds.BoundTable.below_zero.Given as goal
 
 abbrev pub invariant-loop-index : goal.invariant-loop-index

@@ -1,8 +1,8 @@
 use Rattle.std.proofs.Common.{rules, ◌≡◌, List}
 use Rattle.std.specs.Prelude.{OnOk}
 use Rattle.mps_lex.specs.Kinds.{Name}
-use Rattle.mps_pairs.specs.Faults.{column_words_fault}
-use Rattle.mps_pairs.specs.Spelling.{field}
+use Rattle.decks.specs.Faults.{column_words_fault}
+use Rattle.decks.specs.Spelling.{field}
 use Rattle.mps_pairs.specs.Known.{Judges, rows_here, with_column}
 use Rattle.mps_pairs.proofs.Shapes.{three, five, other_column}
 use Rattle.mps_pairs.proofs.columns.ColumnTable.take_words.Goals as goal

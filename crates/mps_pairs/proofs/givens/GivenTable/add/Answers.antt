@@ -1,5 +1,5 @@
 use Rattle.std.proofs.Common.{subst, sym, ◌≡◌, is_some, false}
-use Rattle.mps_pairs.specs.Names.{named}
+use Rattle.decks.specs.Names.{named}
 use Rattle.mps_pairs.specs.Known.{KnownGivens}
 use Rattle.mps_pairs.proofs.Placed.{given_put}
 use Rattle.mps_pairs.proofs.givens.GivenTable.add.Goals as goal

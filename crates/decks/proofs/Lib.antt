@@ -1,0 +1,14 @@
+pub mod Relations
+pub mod Behind
+pub mod KeptNumbers
+pub mod KeptParts
+pub mod KeptSlices
+pub mod KeptNames
+pub mod KeptRows
+pub mod KeptGivens
+pub mod KeptBounds
+pub mod KeptEntries
+pub mod KeptColumns
+pub mod KeptPairs
+pub mod Kept
+pub mod Values

@@ -1,0 +1,10 @@
+pub mod Decks
+pub mod Names
+pub mod Numbers
+pub mod Sections
+pub mod Bounds
+pub mod Spelling
+pub mod Faults
+pub mod Texts
+pub mod After
+pub mod Whys

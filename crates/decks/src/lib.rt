@@ -1,0 +1,17 @@
+//! Decks in free MPS with a section PAIRS: objective, rows, columns, bounds, ranges and pairs of
+//! quantities of which one must be zero; what they are, and which deck a text spells.
+//!
+//! The definitions stand in `specs/`: `Spelling` and `Bounds` say which deck lines spell, `Faults`
+//! what is wrong with a line behind others, and `Texts` which deck a text spells and which fault is
+//! its first. `mps_pairs` reads decks.
+#![tactic(auto)]
+
+mod bounds;
+mod deck;
+mod fault;
+mod laws;
+
+pub use bounds::BoundKind;
+pub use deck::{Bound, Column, Deck, Entry, Letter, PairLine, Quantity, Row};
+pub use fault::{DeckFault, DeckWhy};
+pub use laws::{spelled_by_first_lines, spelled_decks_keep, spelled_once, spelled_or_faulty};
