@@ -13,9 +13,9 @@ ghost use Rattle.deck_case.specs.Wide.{wide_row, wide_rows};
 use crate::CaseFault;
 use crate::objective::{Objective, objective_of_row};
 use crate::rows::push_row;
+use decks::{Deck, Entry, Letter, Row};
 use lp_base::Sequence;
 use lpcc_case::Constraint;
-use decks::{Deck, Entry, Letter, Row};
 use std::alloc::Global;
 
 /// The objective, the constraints of the other rows in file order, and for each row the number of

@@ -9,10 +9,10 @@ use crate::CaseFault;
 use crate::entries::Terms;
 use crate::numbers::narrow;
 use crate::relations::{at_least, equal_to};
+use decks::{Bound, Column};
 use lp_base::Sequence;
 use lp_nums::Frac;
 use lpcc_case::Constraint;
-use decks::{Bound, Column};
 use std::alloc::{AllocError, Global};
 
 fn one_term(alloc: Global, column: u32, coefficient: i64) -> Result<Terms, AllocError>

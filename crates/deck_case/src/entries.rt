@@ -8,8 +8,8 @@ ghost use Rattle.deck_case.specs.Wide.{has_wide, named};
 
 use crate::CaseFault;
 use crate::numbers::whole;
-use lp_base::Sequence;
 use decks::Entry;
+use lp_base::Sequence;
 use std::alloc::{AllocError, Global};
 
 /// Columns with their coefficients, none of which is zero.

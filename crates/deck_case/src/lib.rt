@@ -21,6 +21,7 @@ mod relations;
 mod rows;
 
 use body::Body;
+use decks::Deck;
 pub use fault::CaseFault;
 pub use laws::{
     a_decks_case_keeps_the_limits, case_exactly_without_a_fault, case_is_determined,
@@ -30,7 +31,6 @@ pub use laws::{
 };
 use lp_base::Sequence;
 use lpcc_case::Case;
-use decks::Deck;
 use std::alloc::Global;
 
 /// The most constraints that a case may have.

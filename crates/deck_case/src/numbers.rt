@@ -8,8 +8,8 @@ ghost use Rattle.deck_case.specs.CaseParts.{numbers_of};
 ghost use Rattle.deck_case.specs.Multipliers.{ArePositive, multiplier, times};
 ghost use Rattle.deck_case.specs.Steps.{IsClearedBy, IsLcm, IsNarrowMultiplier, far_end, narrow};
 
-use lp_nums::{Frac, gcd};
 use decks::Entry;
+use lp_nums::{Frac, gcd};
 
 /// The most that a whole number of a case, or a multiplier, may have in size.
 const WIDEST: u128 = 1 << 52;

@@ -12,8 +12,8 @@ ghost use Rattle.deck_case.specs.Wide.{wide_row};
 use crate::CaseFault;
 use crate::entries::terms;
 use crate::numbers::{multiplier, whole};
-use lp_base::Sequence;
 use decks::{Entry, Row};
+use lp_base::Sequence;
 use std::alloc::{AllocError, Global};
 
 /// The cost of each column and the constant, both times the scale.

@@ -5,8 +5,8 @@ ghost use Rattle.decks.specs.Decks.{IsDeck, NamesQuantity};
 ghost use Rattle.deck_case.specs.CaseParts.{constraints_of};
 ghost use Rattle.deck_case.specs.DeckCases.{before_column, before_row, pair_of, side_number, side_place};
 
-use lp_base::Sequence;
 use decks::{Deck, Letter, Quantity, Row};
+use lp_base::Sequence;
 use std::alloc::{AllocError, Global};
 
 /// The place of a pair's side among the constraints of its row.

@@ -13,9 +13,9 @@ use crate::CaseFault;
 use crate::entries::{Terms, terms};
 use crate::numbers::{far_end, multiplier, whole};
 use crate::relations::{equal_to, push_lower, push_upper};
+use decks::{Entry, Letter, Row};
 use lp_nums::Frac;
 use lpcc_case::Constraint;
-use decks::{Entry, Letter, Row};
 use std::alloc::{AllocError, Global};
 
 /// The two ends of a row, none where it has no end.
