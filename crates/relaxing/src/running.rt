@@ -12,9 +12,9 @@ use command::{
     read_case,
 };
 use deck_case::relaxed_verdicts_are_those_of_the_relaxed_deck;
+use decks::spelled_decks_keep;
 use lp_io::{Sink, Source};
 use lpcc_case::Case;
-use mps_pairs::spelled_decks_keep;
 use std::alloc::Global;
 
 // Solves the relaxation of the case, and writes how that ends.
