@@ -84,6 +84,7 @@ module _ (m n : ReachView) (t : Turned m n) where
     known = omega (arith, F.known, count);
     number = turned_worker ∙ F.number;
     case = turned_case ∙ F.case ∙ sym same.0;
+    lanes = ap length turned_lanes ∙ F.lanes ∙ sym count;
     pages = ap (map page_count) turned_lanes ∙ F.pages ∙ ap (λ (h : List (List ℕ)). get_or h w []) (sym same.1);
   }
 
@@ -105,6 +106,7 @@ marked_fits s w b m F same M = record {
   known = F.known;
   number = same.0 ∙ F.number;
   case = same.1 ∙ F.case;
+  lanes = M.0 ∙ F.lanes;
   pages = marked_counts b.lanes m.lanes M ∙ F.pages;
 }
 
@@ -113,6 +115,7 @@ taken_fits s after w n r from to F T from_is size case count to_is = record {
   known = omega (arith, F.known, count);
   number = T.worker ∙ F.number;
   case = T.case ∙ F.case ∙ sym case;
+  lanes = T.count ∙ F.lanes ∙ sym count;
   pages = took_counts n r from to T (F.pages ∙ sym from_is) size ∙ to_is;
 }
 
@@ -145,7 +148,7 @@ new_reach s a n w r T h size case pages handed =
     let count : length r.lanes ≡ n = T.count ∙ length_same n no_lane in
     let counts : map page_count r.lanes ≡ replicate n 1 = took_counts bare r (replicate n 0) (replicate n 1) T (bare_counts n) (length_same n one ∙ sym (length_same n no_lane)) in
     record {
-      fits = record { known = omega (arith, h, size); number = T.worker; case = T.case ∙ sym case; pages = counts ∙ sym handed };
+      fits = record { known = omega (arith, h, size); number = T.worker; case = T.case ∙ sym case; lanes = count ∙ sym size; pages = counts ∙ sym handed };
       all = counts ∙ sym pages;
       spare = T.spare;
       published = T.published;

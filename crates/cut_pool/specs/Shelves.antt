@@ -20,6 +20,7 @@ pub record Fits (s : ShelfView) (worker : ℕ) (r : ReachView) : Type 0 where
   pub known : worker < length s.pages
   pub number : r.worker ≡ worker
   pub case : r.case ≡ s.case
+  pub lanes : length r.lanes ≡ length s.pages
   pub pages : map page_count r.lanes ≡ slice_index_or s.handed worker []
 
 -- the reach has a pass to each page on the shelf

@@ -1,8 +1,5 @@
 //! What the items of the pool keep.
-ghost use Rattle.std.specs.Prelude.{◌≡◌};
-ghost use Rattle.cut_words.specs.Words.{item_length};
-
-use cut_words::are_passing_words;
+use cut_words::{are_passing_words, item_length};
 use lpcc_case::Case;
 use page::Keeps;
 use std::alloc::Global;
@@ -23,17 +20,10 @@ impl Keeps for CutKeeps {
     ghost fact = { λ k words. SpellsPassing (arc_value k.case) words };
 
     fn stride(&self) -> u32 {
-        length_of(&self.case)
+        item_length(&self.case)
     }
 
     fn test(&self, words: &[u64]) -> bool {
         are_passing_words(&self.case, words)
     }
-}
-
-/// The length of an item.
-pub fn length_of(case: &Case) -> u32
-    ensures { result ≡ item_length case.now }
-{
-    5 + case.pairs().len() as u32 + case.constraints().len() as u32
 }

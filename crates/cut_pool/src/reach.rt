@@ -123,8 +123,8 @@ impl Reach {
         &self.case
     }
 
-    /// The number of lanes.
-    pub(crate) fn lanes(&self) -> usize
+    /// The number of lanes, one for each worker.
+    pub fn lanes(&self) -> usize
         ensures { result ≡ length self.now.lanes }
     {
         self.lanes.len()

@@ -10,5 +10,5 @@ mod sums;
 
 pub use check::are_passing_words;
 pub use laws::words_are_of_one_cut;
-pub use put::to_words;
+pub use put::{item_length, to_words};
 pub use read::from_words;

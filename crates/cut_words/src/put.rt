@@ -10,6 +10,13 @@ use cuts::Cut;
 use lpcc_case::Case;
 use nogoods::{Choice, NoGood, Side};
 
+/// The number of words of a cut of this case: five, one for each pair and one for each constraint.
+pub fn item_length(case: &Case) -> u32
+    ensures { result ≡ item_length case.now }
+{
+    5 + case.pairs().len() as u32 + case.constraints().len() as u32
+}
+
 fn word_of_side(side: Side) -> u64
     ensures { result ≡ side_word side }
 {

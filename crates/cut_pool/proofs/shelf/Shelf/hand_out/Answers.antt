@@ -44,7 +44,7 @@ returns-clause-fits c =
     let known : w < length handed = omega (arith, inside, c.self.invariant.rows) in
     let count : length after ≡ length lanes = sym (length-map after length) ∙ ap length e.counts ∙ length-map lanes length in
     let from : c.index_mut.result.now ≡ get_or handed w [] = sym (read_here handed w c.index_mut.result.now [] known c.index_mut.ensures.value) in
-    let size : length row ≡ length n.lanes = e.waits.count ∙ count ∙ sym (c.self.invariant.waits w inside).count ∙ sym (ap length F.pages) ∙ length-map n.lanes page_count in
+    let size : length row ≡ length n.lanes = e.waits.count ∙ count ∙ sym (length-map lanes length) ∙ sym F.lanes in
     taken_fits before later w n c.take_all.new.reach c.index_mut.result.now row F e.took from size refl (ap length e.counts) (sym (set_here handed w w row [] refl known))
 
 pub returns-clause-all : goal.returns-clause-all
