@@ -10,7 +10,7 @@ use Rattle.lpcc_case.specs.Instance.{Instance}
 use Rattle.cut_pool.specs.Lanes.{LaneView, given, marked}
 use Rattle.cut_pool.specs.Reaches.{ReachView, lane_at, no_lane, AreMarked, LaneTook, TookAll, TurnedPage, Turned, bare_reach}
 use Rattle.cut_pool.specs.Opened.{RowWaits, IsRoom, IsShelf, IsFirstLane}
-use Rattle.cut_pool.specs.Shelves.{ShelfView, page_count, Fits, IsReadied, Readied, IsNewReach}
+use Rattle.cut_pool.specs.Shelves.{ShelfView, page_count, Fits, IsReadied, Readied, IsNewReach, SameButRow}
 use Rattle.cut_pool.proofs.Counting.{counts_same, counts_at}
 use Rattle.cut_pool.proofs.Taking.{Pages, set_here}
 use Rattle.cut_pool.proofs.FirstPages.{length_same, zero_at}
@@ -178,6 +178,34 @@ new_shelf a lanes rooms handed few r rows waits = record {
     same_rooms : (n : ℕ) → AllByRecursion IsRoom (replicate n FIRST_ROOM)
     same_rooms zero = tt
     same_rooms (suc n) = ((omega arith, omega arith), same_rooms n)
+
+-- ---- other workers
+
+pub row_rest : (before after : ShelfView) (w : ℕ) (row : List ℕ) → after.case ≡ before.case → length after.pages ≡ length before.pages → after.handed ≡ set before.handed w row → SameButRow before after w
+row_rest before after w row case count e = record {
+  case = case;
+  count = count;
+  others = λ v n. ap (λ (h : List (List ℕ)). get_or h v []) e ∙ get_or-set_other before.handed w v row [] n;
+}
+
+pub turned_rest : (before after : ShelfView) (w : ℕ) → (after.case ≡ before.case) × (after.handed ≡ before.handed) → length after.pages ≡ length before.pages → SameButRow before after w
+turned_rest before after w same count = record {
+  case = same.0;
+  count = count;
+  others = λ v n. ap (λ (h : List (List ℕ)). get_or h v []) same.1;
+}
+
+pub no_rest : (s : ShelfView) (w : ℕ) → SameButRow s s w
+no_rest s w = record { case = refl; count = refl; others = λ v n. refl }
+
+pub rest_rest : (a b c : ShelfView) (w : ℕ) → SameButRow a b w → SameButRow b c w → SameButRow a c w
+rest_rest a b c w P Q = record {
+  case = Q.case ∙ P.case;
+  count = Q.count ∙ P.count;
+  others = λ v n. Q.others v n ∙ P.others v n;
+}
+
+pub ruleset rests = (turned_rest, no_rest, rest_rest)
 
 -- ---- answers
 

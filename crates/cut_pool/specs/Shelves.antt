@@ -1,5 +1,5 @@
 -- What contracts see of a shelf, and what `create` and `ready` promise.
-use Rattle.std.specs.Prelude.{◌≡◌, ◌<◌, ◌≤◌, ◌++◌, ◌⊎◌, false, ℕ, List, [], All, length, map, slice_index_or}
+use Rattle.std.specs.Prelude.{◌≡◌, ◌≢◌, ◌<◌, ◌≤◌, ◌++◌, ◌⊎◌, false, ℕ, List, [], All, length, map, slice_index_or}
 use Rattle.cut_pool.specs.declared.rooms.TheConstants.{FIRST_ROOM}
 use Rattle.lpcc_case.specs.Instance.{Instance}
 use Rattle.cut_pool.specs.Pages.{PageView}
@@ -22,6 +22,12 @@ pub record Fits (s : ShelfView) (worker : ℕ) (r : ReachView) : Type 0 where
   pub case : r.case ≡ s.case
   pub lanes : length r.lanes ≡ length s.pages
   pub pages : map page_count r.lanes ≡ slice_index_or s.handed worker []
+
+-- nothing but the pages of a lane and what was handed to this worker has changed
+pub record SameButRow (before after : ShelfView) (worker : ℕ) : Type 0 where
+  pub case : after.case ≡ before.case
+  pub count : length after.pages ≡ length before.pages
+  pub others : (w : ℕ) → w ≢ worker → slice_index_or after.handed w [] ≡ slice_index_or before.handed w []
 
 -- the reach has a pass to each page on the shelf
 abbrev pub HasAll : ShelfView → ReachView → Type 0

@@ -1,7 +1,7 @@
 //! The shelf: where pages are opened, and from where their passes are taken.
 ghost use Rattle.std.specs.Prelude.{◌≡◌, ◌<◌, ◌≤◌, ◌↔◌, ℕ, List, [], IsTrue, IfOk, OnOk, OnErr, length, slice_index_or};
 ghost use Rattle.cut_pool.specs.Reaches.{ReachView, TookAll, Turned, TurnedPage};
-ghost use Rattle.cut_pool.specs.Shelves.{ShelfView, Fits, HasAll, Readied, IsNewReach};
+ghost use Rattle.cut_pool.specs.Shelves.{ShelfView, Fits, HasAll, Readied, IsNewReach, SameButRow};
 
 use crate::cases::same_case;
 use crate::counts::has_counts;
@@ -77,12 +77,13 @@ impl Shelf {
     }
 
     /// Turns a reach to a new page where it has no room for a publication.
+    #[tactic(auto, using(crate::proofs::Readying::rests))]
     fn turn(&mut self, alloc: Global, worker: usize, reach: &mut Reach) -> Result<(), AllocError>
         requires { Fits self.old worker reach.old }
         ensures fits { Fits self.new worker reach.new }
         ensures turned { Turned reach.old reach.new }
         ensures ok { OnOk result (1 ≤ reach.new.spare) }
-        ensures case { self.new.case ≡ self.old.case }
+        ensures rest { SameButRow self.old self.new worker }
     {
         if reach.spare() > 0 {
             return Ok(());
@@ -96,7 +97,7 @@ impl Shelf {
         ensures fits { Fits self.new worker reach.new }
         ensures took { (from : List ℕ) × (to : List ℕ) × TookAll reach.old reach.new from to }
         ensures all { OnOk result (HasAll self.new reach.new) }
-        ensures case { self.new.case ≡ self.old.case }
+        ensures rest { SameButRow self.old self.new worker }
     {
         take_all(&mut self.lanes, &mut self.handed[worker], worker, reach)
     }
@@ -104,13 +105,15 @@ impl Shelf {
     /// Readies a worker for its next turn: sets the marks of its lanes, opens a page in its lane where
     /// it has no room for a publication, and hands it a pass to every page to which it has none. Each
     /// page has room for twice as many items as the one before, and for at most 1,024. Without memory
-    /// the shelf and the reach may have new pages and passes.
+    /// the shelf and the reach may have new pages and passes. It changes nothing that was handed to
+    /// another worker.
+    #[tactic(auto, using(crate::proofs::Readying::rests))]
     pub fn ready(&mut self, alloc: Global, worker: u32, reach: &mut Reach) -> Result<(), AllocError>
         requires { Fits self.old worker reach.old }
         ensures fits { Fits self.new worker reach.new }
         ensures readied { Readied reach.old reach.new }
         ensures ok { OnOk result ((1 ≤ reach.new.spare) × HasAll self.new reach.new) }
-        ensures case { self.new.case ≡ self.old.case }
+        ensures rest { SameButRow self.old self.new worker }
     {
         reach.mark();
         self.turn(alloc, worker as usize, reach)?;

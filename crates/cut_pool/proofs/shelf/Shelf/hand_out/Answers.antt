@@ -4,9 +4,9 @@ use Rattle.std.specs.Arc.{arc_value}
 use Rattle.lpcc_case.specs.Instance.{Instance}
 use Rattle.cut_pool.specs.Opened.{RowWaits}
 use Rattle.cut_pool.specs.Reaches.{ReachView}
-use Rattle.cut_pool.specs.Shelves.{ShelfView, Fits, page_count}
+use Rattle.cut_pool.specs.Shelves.{ShelfView, SameButRow, Fits, page_count}
 use Rattle.cut_pool.proofs.Taking.{Pages, read_here, set_here}
-use Rattle.cut_pool.proofs.Readying.{shelf_taken, taken_fits, on_ok}
+use Rattle.cut_pool.proofs.Readying.{shelf_taken, taken_fits, on_ok, row_rest}
 use Rattle.cut_pool.proofs.shelf.Shelf.hand_out.Goals as goal
 
 pub invariant_of-self : goal.invariant_of-self
@@ -58,3 +58,10 @@ returns-clause-all c =
     let known : w < length i.handed.items = omega (arith, inside, c.self.invariant.rows) in
     let mine = (returns-clause-fits c).pages ∙ set_here i.handed.items w w c.take_all.new.row [] refl known in
     on_ok c.take_all.result (c.take_all.new.row ≡ map length c.take_all.new.lanes.items) (map page_count c.take_all.new.reach.lanes ≡ map length c.take_all.new.lanes.items) (λ e. mine ∙ e) c.take_all.ensures.all
+
+pub returns-clause-rest : goal.returns-clause-rest
+returns-clause-rest c =
+    let i = c.self.inside in
+    let before : ShelfView = record { case = arc_value i.case; pages = map length i.lanes.items; handed = i.handed.items } in
+    let later : ShelfView = record { case = arc_value i.case; pages = map length c.take_all.new.lanes.items; handed = set i.handed.items c.args.worker c.take_all.new.row } in
+    subst (λ (s : ShelfView). SameButRow s later c.args.worker) c.self.view_is (row_rest before later c.args.worker c.take_all.new.row refl (ap length c.take_all.ensures.counts) refl)
