@@ -220,7 +220,7 @@ some_lowest a d idle blocked none =
     let lies = in_aside d.aside w.0 (no_flight d w.0 idle.landed w.2) in
     w.3 (subst (IsBarred (barring d)) lies.2 (none lies.1.0 lies.0 lies.1.1 (got d.aside lies.0 lies.1)))
 
-stuck_at : (a : Instance) (d : Part) (at : ℕ) → IsIdle d → AllBlocked (length a.pairs) (barring d) (taken d) → (h : IsLowest (barring d) d.aside (length d.aside) at) → IsStuck a d h.entry
+pub stuck_at : (a : Instance) (d : Part) (at : ℕ) → IsIdle d → AllBlocked (length a.pairs) (barring d) (taken d) → (h : IsLowest (barring d) d.aside (length d.aside) at) → IsStuck a d h.entry
 stuck_at a d at idle blocked h = record {
   idle = idle;
   each = λ p size unbarred. elim (blocked.each p size) [
@@ -232,7 +232,7 @@ stuck_at a d at idle blocked h = record {
   lowest = λ y c unbarred. h.lowest c.0 y c.1 (got d.aside y c) unbarred;
 }
 
-by_cause : (a : Instance) (d : Part) (ticket : ℕ) (piece : List Side) (why : Cause) → IsStuck a d (aside_of ticket piece why) → IsStuckEnding a d (ending_by piece why)
+pub by_cause : (a : Instance) (d : Part) (ticket : ℕ) (piece : List Side) (why : Cause) → IsStuck a d (aside_of ticket piece why) → IsStuckEnding a d (ending_by piece why)
 by_cause a d ticket piece (cause.Wide at) h = (ticket, h)
 by_cause a d ticket piece (cause.Spent at) h = (ticket, h)
 
@@ -257,7 +257,7 @@ stuck_result a d e absorbed aside at x end same cuts_are asides_are idle blocked
 stuck_again : (a : Instance) (d : Part) (log : List Step) (x : Aside) → IsStuck a (record d { log = log }) x → IsStuck a d x
 stuck_again a d log x h = record { idle = record { unconcluded = h.idle.unconcluded; landed = h.idle.landed }; each = h.each; among = h.among; unbarred = h.unbarred; lowest = h.lowest }
 
-is_ending : (a : Instance) (o : Options) (d : Part) (log : List Step) (end : Ending) → IsStuckEnding a (record d { log = log }) end → IsEnding a o d end
+pub is_ending : (a : Instance) (o : Options) (d : Part) (log : List Step) (end : Ending) → IsStuckEnding a (record d { log = log }) end → IsEnding a o d end
 is_ending a o d log (ending.Verdict c n) h = absurd h
 is_ending a o d log (ending.Overflow piece at) h = (h.0, stuck_again a d log (aside_of h.0 piece (cause.Wide at)) h.1)
 is_ending a o d log (ending.PivotsSpent piece at) h = (h.0, stuck_again a d log (aside_of h.0 piece (cause.Spent at)) h.1)
@@ -276,10 +276,10 @@ stuck_keeps_form a m ending.NoMemory h = absurd h
 
 -- ---- the better of two
 
-barred_map : (cs : List Cut) (p : List Side) → Any (λ c. Bars (no_good_of c) p) cs → IsBarred (map no_good_of cs) p
+pub barred_map : (cs : List Cut) (p : List Side) → Any (λ c. Bars (no_good_of c) p) cs → IsBarred (map no_good_of cs) p
 barred_map cs p any = Rattle.play.proofs.ListLaws.any_of (λ ng. Bars ng p) (map no_good_of cs) (no_good_of any.1) (Rattle.play.proofs.ListLaws.in_map no_good_of cs any.1 (any.0, any.2, any.3)) any.4
 
-map_barred : (cs : List Cut) (p : List Side) → IsBarred (map no_good_of cs) p → Any (λ c. Bars (no_good_of c) p) cs
+pub map_barred : (cs : List Cut) (p : List Side) → IsBarred (map no_good_of cs) p → Any (λ c. Bars (no_good_of c) p) cs
 map_barred cs p any =
     let from = Rattle.play.proofs.ListLaws.from_map no_good_of cs any.1 (any.0, any.2, any.3) in
     Rattle.play.proofs.ListLaws.any_of (λ c. Bars (no_good_of c) p) cs from.0 from.1 (subst (λ ng. Bars ng p) (sym from.2) any.4)

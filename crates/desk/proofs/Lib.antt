@@ -5,3 +5,4 @@ pub mod SettleLaws
 pub mod FormLaws
 pub mod LineLaws
 pub mod CloseLaws
+pub mod OverLaws

@@ -36,13 +36,13 @@ use Rattle.desk.specs.Searches.{AreSameButBarred, GoesOn, IsSearched}
 
 -- ---- what is taken
 
-taken_cases : (d : Part) (p : List Side) → Contains (taken d) p → Contains (map piece_of d.flight) p ⊎ Contains (map piece_aside d.aside) p
+pub taken_cases : (d : Part) (p : List Side) → Contains (taken d) p → Contains (map piece_of d.flight) p ⊎ Contains (map piece_aside d.aside) p
 taken_cases d p c = Contains-append_cases (map piece_of d.flight) (map piece_aside d.aside) p c
 
-flies : (d : Part) (p : List Side) → Contains (map piece_of d.flight) p → Contains (taken d) p
+pub flies : (d : Part) (p : List Side) → Contains (map piece_of d.flight) p → Contains (taken d) p
 flies d p c = Contains-append_left (map piece_of d.flight) (map piece_aside d.aside) p c
 
-lies : (d : Part) (p : List Side) → Contains (map piece_aside d.aside) p → Contains (taken d) p
+pub lies : (d : Part) (p : List Side) → Contains (map piece_aside d.aside) p → Contains (taken d) p
 lies d p c = Contains-append_right (map piece_of d.flight) (map piece_aside d.aside) p c
 
 found_cond : (b : Bool) (u t : Ticket) (us : List Ticket) (found : Option Ticket) → (found ≡ Some t → Contains us t) → (if b then Some u else found) ≡ Some t → Contains (u ∷ us) t
@@ -67,7 +67,7 @@ still_cond false u us rest p more c = elim (front_or_rest u.piece (map piece_of 
 ]
 
 -- what is left in flight was there
-was_there : (number : ℕ) (ts : List Ticket) (p : List Side) → Contains (map piece_of (without number ts)) p → Contains (map piece_of ts) p
+pub was_there : (number : ℕ) (ts : List Ticket) (p : List Side) → Contains (map piece_of (without number ts)) p → Contains (map piece_of ts) p
 was_there number [] p c = c
 was_there number (u ∷ us) p c = still_cond (nat_eq u.number number) u us (without number us) p (λ later. was_there number us p later) c
 
