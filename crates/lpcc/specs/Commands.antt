@@ -1,10 +1,63 @@
--- The words behind the program's name.
-use Rattle.std.specs.Prelude.{◌≡◌, ℕ, List, [], ◌∷◌, ◌++◌, codes}
+-- The commands of the program, and what a run of each says.
+use Rattle.std.specs.Prelude.{◌≡◌, ⊤, if◌then◌else◌, ℕ, Bool, true, false, List, [], ◌∷◌, ◌++◌, Option, Some, codes}
+use Rattle.lpcc_case.specs.Instance.{Instance}
+use Rattle.command.specs.Inputs.{SpellsAlone}
+use Rattle.command.specs.Runs.{IsRun}
+use Rattle.deck_gen.specs.Generator.{IsInRange}
+use Rattle.deck_gen.specs.declared.sizes.Sizes.{Sizes}
+use Rattle.generating.specs.Generating.{IsGenerated, IsGeneratedAndSolved}
+use Rattle.play.specs.declared.event.Options.{Options}
+use Rattle.play.specs.declared.event.ShrinkMode.TheVariants.{Full, Off}
+use Rattle.relaxing.specs.Relaxing as relaxing
+use Rattle.solving.specs.Solving as solving
+use Rattle.verifier.specs.Runs.{IsChecked, SaysYes}
+use Rattle.words.specs.Commands.{command_of}
+use Rattle.words.specs.declared.command.Command.{Command}
+use Rattle.words.specs.declared.command.Command.TheVariants.{Check, Generate, Relax, Solve}
+use Rattle.words.specs.declared.command.Draft.{Draft}
+use Rattle.words.specs.declared.command.Settings.{Settings}
+use Rattle.words.specs.declared.command.TheConstants.{USUAL_PIECES, USUAL_PIVOTS}
 
--- they are the one word `check`
-abbrev pub IsCheck : List (List ℕ) → Type 0
-IsCheck words = words ≡ codes "check" ∷ []
-
--- what is written where they are no command
+-- what is written where the words are no command
 abbrev pub words_refused : List ℕ
 words_refused = codes "words: not a command of lpcc" ++ 10 ∷ []
+
+-- there is such a deck
+abbrev pub IsPossible : Command → Type 0
+IsPossible Check = ⊤
+IsPossible (Relax pivots) = ⊤
+IsPossible (Solve settings) = ⊤
+IsPossible (Generate draft) = IsInRange draft.columns draft.rows draft.pairs
+
+-- the words are this command
+abbrev pub IsCommand : List (List ℕ) → Command → Type 0
+IsCommand words command = (command_of words ≡ Some command) × IsPossible command
+
+-- the options of a run with one worker
+abbrev pub options_of : Settings → Options
+options_of s = record { workers = 1; pieces = s.pieces; pivots = s.pivots; shrink = if s.full then Full else Off }
+
+abbrev pub usual : Options
+usual = record { workers = 1; pieces = USUAL_PIECES; pivots = USUAL_PIVOTS; shrink = Full }
+
+abbrev pub sizes_of : Draft → Sizes
+sizes_of d = record { seed = d.seed; columns = d.columns; rows = d.rows; pairs = d.pairs }
+
+-- What a run of the command does over a source with these bytes left and a sink that took these, with the counts of faults
+-- of both before and behind it: the right answer is written; what status 0 says; and that budgets which are enough are never
+-- spent.
+abbrev pub Runs : Command → Option (List ℕ) → ℕ → ℕ → Option (List ℕ) → Option (List ℕ) → ℕ → ℕ → ℕ → Type 0
+Runs Check left rb rn tb tn wb wn status =
+    IsChecked left rb rn tb tn wb wn status
+    × (status ≡ 0 → (bytes : List ℕ) → left ≡ Some bytes → SaysYes bytes tb tn)
+Runs (Relax pivots) left rb rn tb tn wb wn status =
+    IsRun (relaxing.Says pivots) left rb rn tb tn wb wn status
+    × (status ≡ 0 → (bytes : List ℕ) → left ≡ Some bytes → relaxing.SaysVerdict bytes tb tn)
+    × ((bytes : List ℕ) → left ≡ Some bytes → (a : Instance) → SpellsAlone bytes a → relaxing.AreEnough a pivots → status ≡ 8 → ⊥)
+Runs (Solve settings) left rb rn tb tn wb wn status =
+    IsRun (solving.Says (options_of settings) settings.brief) left rb rn tb tn wb wn status
+    × (status ≡ 0 → (bytes : List ℕ) → left ≡ Some bytes → solving.SaysVerdict bytes (options_of settings) settings.brief tb tn)
+    × ((bytes : List ℕ) → left ≡ Some bytes → (a : Instance) → SpellsAlone bytes a → solving.AreEnough a (options_of settings) → status ≡ 8 → ⊥)
+Runs (Generate draft) left rb rn tb tn wb wn status =
+    (draft.solve ≡ false → IsGenerated (sizes_of draft) tb tn wb wn status)
+    × (draft.solve ≡ true → IsGeneratedAndSolved usual (sizes_of draft) tb tn wb wn status)

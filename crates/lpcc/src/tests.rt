@@ -1,16 +1,47 @@
-//! What no clause says: printed answers, and that calls succeed.
+//! What no clause says: printed answers on decks of known answer, and that calls succeed.
 use crate::run::run_alone;
 use lp_io::{MemSink, MemSource};
 use std::alloc::Global;
 use std::test::Fail;
 
+/// Two columns of at most 3 and 2 with the costs -1 and -2, and a pair of both.
+const BOUNDED: &str =
+    "NAME two\nROWS\n N cost\nCOLUMNS\n x cost -1\n y cost -2\nBOUNDS\n UP bnd x 3\n UP bnd y 2\nPAIRS\n p1 COL x COL y\nENDATA\n";
+
+/// The least x with 3 x at least 1.
+const THIRD: &str = "ROWS\n N cost\n G r1\nCOLUMNS\n x cost 1 r1 3\nRHS\n rhs r1 1\nENDATA\n";
+
+/// A column with the cost -1, paired with one without a cost.
+const FALLING: &str =
+    "NAME three\nROWS\n N cost\nCOLUMNS\n x cost -1\n y cost 0\nPAIRS\n p1 COL x COL y\nENDATA\n";
+
+/// Three rows whose ratios tie at the origin.
+const TIED: &str =
+    "ROWS\n N cost\n L r1\n L r2\n L r3\n L r4\nCOLUMNS\n x cost -1 r1 1\n x r2 1 r3 1\n y cost -1 r1 -1\n y r2 -2 r3 -3\n y r4 1\nRHS\n rhs r4 1\nENDATA\n";
+
+/// Two equations whose first exchange gives a number of 104 bits.
+const WIDE: &str =
+    "ROWS\n N cost\n E r1\n E r2\nCOLUMNS\n x cost 1 r1 4503599627370495\n x r2 1\n y r1 1 r2 4503599627370494\nRHS\n rhs r1 1 r2 1\nENDATA\n";
+
+/// The same column twice in a pair.
+const ZERO: &str =
+    "ROWS\n N cost\nCOLUMNS\n x cost -1\nBOUNDS\n UP bnd x 5\nPAIRS\n p1 COL x COL x\nENDATA\n";
+
+/// Two pairs that share a column that is at least 1.
+const SHARED: &str =
+    "ROWS\n N cost\n G r1\nCOLUMNS\n x r1 1\n y cost 1\n z cost 1\nRHS\n rhs r1 1\nPAIRS\n p1 COL x COL y\n p2 COL x COL z\nENDATA\n";
+
+/// One equation without columns, 0 = 1.
+const NOTHING: &str = "ROWS\n N cost\n E r1\nCOLUMNS\nRHS\n rhs r1 1\nENDATA\n";
+
 /// The status and what the sink took, for words and an input that comes whole.
-fn answer(alloc: Global, words: &[&str], input: &[u8]) -> Result<(u8, String), Fail> {
-    let mut source = MemSource::over(input.to_vec(alloc)?, 4096, Vec::new(alloc));
+fn answer(alloc: Global, words: &str, input: &str) -> Result<(u8, String), Fail> {
+    let bytes = input.as_bytes().to_vec(alloc)?;
+    let mut source = MemSource::over(bytes, 4096, Vec::new(alloc));
     let mut sink = MemSink::create(alloc, 10_000, 4096, Vec::new(alloc))?;
     let mut list = Vec::new(alloc);
-    for word in words {
-        list.push(String::from_str(alloc, *word)?)?;
+    for word in words.split_whitespace() {
+        list.push(String::from_str(alloc, word)?)?;
     }
     let status = run_alone(alloc, &list, &mut source, &mut sink);
     let text = String::from_utf8(sink.bytes)
@@ -19,23 +50,92 @@ fn answer(alloc: Global, words: &[&str], input: &[u8]) -> Result<(u8, String), F
     Ok((status, text))
 }
 
-fn is_refused(alloc: Global, words: &[&str]) -> Result<bool, Fail> {
-    let (status, text) = answer(alloc, words, b"")?;
-    Ok(status == 2 && text.as_str() == "words: not a command of lpcc\n")
-}
-
 #[test]
 fn words(rt: HostRuntime) -> Result<(), Fail> {
-    assert!(rt; is_refused(rt.alloc(), &[])?);
-    assert!(rt; is_refused(rt.alloc(), &["check", "--brief"])?);
-    assert!(rt; is_refused(rt.alloc(), &["Check"])?);
-    assert!(rt; is_refused(rt.alloc(), &["solve"])?);
+    let rows = [
+        "",
+        "check --brief",
+        "Check",
+        "solve -j 0",
+        "solve -j 65",
+        "solve --pieces",
+        "solve --brief --brief",
+        "solve --shrink half",
+        "relax --brief",
+        "relax --pivots 0",
+        "relax --pivots 9223372036854775808",
+        "relax --pivots +5",
+        "gen 7 2 1 2",
+        "gen 7 2 1",
+        "gen 7 2 --solve 1 1",
+        "help",
+    ];
+    for row in rows {
+        let (status, text) = answer(rt.alloc(), row, "")?;
+        assert_eq!(rt;
+            (status, text.as_str()),
+            (2, "words: not a command of lpcc\n"),
+            "{row}"
+        );
+    }
     Ok(())
 }
 
 #[test]
-fn check(rt: HostRuntime) -> Result<(), Fail> {
-    let (status, text) = answer(rt.alloc(), &["check"], b"")?;
-    assert_eq!(rt; (status, text.as_str()), (3, "deck: line 1: NotClosed\n"));
+fn answers(rt: HostRuntime) -> Result<(), Fail> {
+    let rows = [
+        ("check", "", 3, "deck: line 1: NotClosed\n"),
+        ("relax", BOUNDED, 0, "relaxation optimal -7\n"),
+        (
+            "relax --pivots 1",
+            BOUNDED,
+            8,
+            "budget pivots 1 relaxation stage cost\n",
+        ),
+        ("relax --pivots 2", BOUNDED, 0, "relaxation optimal -7\n"),
+        ("relax", FALLING, 0, "relaxation unbounded\n"),
+        ("relax", TIED, 0, "relaxation optimal -2\n"),
+        ("relax", NOTHING, 0, "relaxation infeasible\n"),
+        (
+            "relax",
+            "ROWS\n N cost\nENDATA\nx\n",
+            3,
+            "deck: line 3: SectionOrder\n",
+        ),
+        ("solve --brief", BOUNDED, 0, "* optimal -4\n* drawn 2\n"),
+        ("solve --pieces 1", BOUNDED, 8, "budget pieces 1 left 1b\n"),
+        (
+            "solve --pieces 2 --brief -j 3",
+            BOUNDED,
+            0,
+            "* optimal -4\n* drawn 2\n",
+        ),
+        (
+            "solve",
+            THIRD,
+            0,
+            "* optimal 1/3\n* drawn 1\nlpcc-certificate 1\noptimal\npoint 3 : 1 1\nvalue 1\np : 3 : 1 1\nend 1\n",
+        ),
+        (
+            "solve",
+            FALLING,
+            0,
+            "* unbounded\n* drawn 2\nlpcc-certificate 1\nunbounded\npiece 1b\npoint 1 :\nray : 1 1\nend 0\n",
+        ),
+        (
+            "solve",
+            NOTHING,
+            0,
+            "* infeasible\n* drawn 1\nlpcc-certificate 1\ninfeasible\ni : 1 1\nend 1\n",
+        ),
+        ("solve", WIDE, 7, "overflow piece - pivots 0 forms x2 c1\n"),
+        ("solve --brief", ZERO, 0, "* optimal 0\n* drawn 2\n"),
+        ("solve --brief", SHARED, 0, "* optimal 0\n* drawn 3\n"),
+        ("gen 7 2 1 1 --solve", "", 0, "* optimal 8\n* drawn 2\n"),
+    ];
+    for (words, input, status, text) in rows {
+        let found = answer(rt.alloc(), words, input)?;
+        assert_eq!(rt; (found.0, found.1.as_str()), (status, text), "{words}");
+    }
     Ok(())
 }
