@@ -1,5 +1,5 @@
 -- One command, and the statuses of commands.
-use Rattle.std.proofs.Common.{ℕ, ◌≡◌, ◌∙◌, refl, sym, ap, subst, arith, true, false, Bool, List, Option, None, Some, ◌⊎◌, inl, inr}
+use Rattle.std.proofs.Common.{ℕ, ◌≡◌, ◌∙◌, refl, sym, ap, subst, arith, true, false, Bool, List, Option, None, Some, inl, inr}
 use Rattle.std.specs.Prelude.{Ok, Err, Result}
 use Rattle.lpcc_case.specs.Instance.{Instance}
 use Rattle.command.specs.Answers.{IsWritten}

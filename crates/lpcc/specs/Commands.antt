@@ -1,5 +1,5 @@
 -- The commands of the program, and what a run of each says.
-use Rattle.std.specs.Prelude.{◌≡◌, ⊤, if◌then◌else◌, ℕ, Bool, true, false, List, [], ◌∷◌, ◌++◌, Option, Some, codes}
+use Rattle.std.specs.Prelude.{◌≡◌, ⊤, if◌then◌else◌, ℕ, true, false, List, [], ◌∷◌, ◌++◌, Option, Some, codes}
 use Rattle.lpcc_case.specs.Instance.{Instance}
 use Rattle.command.specs.Inputs.{SpellsAlone}
 use Rattle.command.specs.Runs.{IsRun}
