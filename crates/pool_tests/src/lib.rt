@@ -1,0 +1,12 @@
+//! Tests of pages, of the words of cuts and of the pool.
+#![tactic(auto)]
+
+#[cfg(test)]
+mod lane_tests;
+#[cfg(test)]
+mod page_tests;
+mod small;
+#[cfg(test)]
+mod word_tests;
+
+pub use small::{CUT, small_case};
