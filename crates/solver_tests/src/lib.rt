@@ -1,0 +1,5 @@
+//! Tests of the solver's layers.
+#![tactic(auto)]
+
+#[cfg(test)]
+mod shrink_tests;
