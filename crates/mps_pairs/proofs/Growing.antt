@@ -16,7 +16,7 @@ use Rattle.decks.specs.declared.fault.DeckWhy.TheVariants.{ColumnSplit}
 use Rattle.decks.specs.Names.{has, place, add_name}
 use Rattle.decks.specs.Spelling.{field, RowLine, row_line, add_row, rows_of, row_named, number_of_row, Given, in_column, NamedEntry, values_on, entries_on, entries_in, rows_in, column_names, entry_at, entry_of, deck_entries, given_set, givens_on, givens_in, pair_of}
 use Rattle.decks.specs.Faults.{◌or◌, split_fault, entry_fault, two_entries_fault, full_fault, marker_fault, column_words_fault, column_fault}
-use Rattle.mps_pairs.specs.Known.{KnownColumns, last_name, known_columns, rows_here, with_name, with_entry, with_entries, with_column, known_givens, with_givens, known_pairs, with_pair}
+use Rattle.mps_pairs.specs.Known.{KnownColumns, last_name, known_columns, rows_here, with_name, with_entry, with_entries, with_column, known_row_values, with_row_values, known_pairs, with_pair}
 use Rattle.decks.proofs.KeptParts.{first_none, second_none, if_none}
 use Rattle.decks.proofs.KeptNames.{same_name, own_name, place_more, columns_push}
 use Rattle.decks.proofs.KeptEntries.{IsNamed}
@@ -32,7 +32,7 @@ rows_push rs l = fold_push add_row [] rs l
 givens_push : (hs : List Line) (l : Line) → givens_in (hs ++ l ∷ []) ≡ givens_in hs ++ givens_on l.fields
 givens_push hs l = flat_map-append (λ (x : Line). givens_on x.fields) hs (l ∷ []) ∙ ap (λ (x : List Given). givens_in hs ++ x) (append-nil (givens_on l.fields))
 
-pub set_and_givens_push : (hs : List Line) (l : Line) → known_givens (hs ++ l ∷ []) ≡ with_givens (known_givens hs) l.fields
+pub set_and_givens_push : (hs : List Line) (l : Line) → known_row_values (hs ++ l ∷ []) ≡ with_row_values (known_row_values hs) l.fields
 set_and_givens_push hs l = λ i. record { set = set_push given_set hs l i; givens = givens_push hs l i }
 
 -- ---- PAIRS

@@ -16,7 +16,7 @@ use Rattle.decks.specs.declared.deck.Column.{Column}
 use Rattle.decks.specs.Names.{has, add_name, named, put}
 use Rattle.decks.specs.Bounds.{Setting, setting_on, settings_in, bound_set, sets_lower, sets_upper, is_fx, later, last_setting, lower_bound, upper_bound, are_fixed, column_bounds, bounded, below_zero_line, upper_below_zero}
 use Rattle.decks.specs.Spelling.{first_set}
-use Rattle.mps_pairs.specs.Known.{set_or, bounds_of, known_bounds, free_column, bounds_with, set_by, with_setting, with_settings, with_bound}
+use Rattle.mps_pairs.specs.Known.{set_or, bounds_of, known_bounds, default_column, bounds_with, set_by, with_setting, with_settings, with_bound}
 use Rattle.decks.proofs.KeptNames.{same_name, own_name, has_more, has_added}
 
 -- ---- the bounds of a column behind one more setting
@@ -142,7 +142,7 @@ unnamed sets c o (s ∷ ss) e =
     let p = or_parts (bytes_eq c s.column) (has (map columns_of ss) c) e in
     ap (λ (x : Option Setting). fold (later sets c) x ss) (later_other sets c o s p.0) ∙ unnamed sets c o ss p.1
 
-free_by : (b : Bool) (ss : List Setting) (c : Name) → has (bounded ss) c ≡ b → unwrap_or (cond b (Some (column_bounds ss c)) None) free_column ≡ column_bounds ss c
+free_by : (b : Bool) (ss : List Setting) (c : Name) → has (bounded ss) c ≡ b → unwrap_or (cond b (Some (column_bounds ss c)) None) default_column ≡ column_bounds ss c
 free_by true ss c q = refl
 free_by false ss c q =
     let none = not_by (has (map columns_of ss) c) (map columns_of ss) c refl q in
@@ -152,7 +152,7 @@ abbrev bounds_known : List Setting → List (Name × Column)
 bounds_known ss = map (bounds_of ss) (bounded ss)
 
 pub bounds_same : (ss : List Setting) (c : Name) → bounds_with (map (bounds_of ss) (bounded ss)) c ≡ column_bounds ss c
-bounds_same ss c = ap (λ (o : Option Column). unwrap_or o free_column) (named_mapped ss (bounded ss) c) ∙ free_by (has (bounded ss) c) ss c refl
+bounds_same ss c = ap (λ (o : Option Column). unwrap_or o default_column) (named_mapped ss (bounded ss) c) ∙ free_by (has (bounded ss) c) ss c refl
 
 seconds : (ss : List Setting) (ns : List Name) → map (λ (e : Name × Column). e.1) (map (bounds_of ss) ns) ≡ map (column_bounds ss) ns
 seconds ss [] = refl

@@ -3,8 +3,10 @@ use Rattle.std.proofs.Common.{◌≡◌, Option, Some, None, Result, Ok, Err, ap
 use Rattle.decks.specs.declared.fault.DeckWhy.{DeckWhy}
 use Rattle.mps_pairs.specs.declared.fault.Fault.{Fault}
 use Rattle.mps_pairs.specs.declared.fault.Fault.TheVariants as faults
-use Rattle.decks.specs.Faults.{◌or◌}
-use Rattle.mps_pairs.specs.Known.{Tells, Judges}
+use Rattle.decks.specs.declared.fault.DeckFault.{DeckFault}
+use Rattle.decks.specs.declared.fault.DeckFault.TheVariants.{NoMemory, At}
+use Rattle.decks.specs.Faults.{◌or◌, Found}
+use Rattle.mps_pairs.specs.Known.{Tells, Judges, TellsAt, JudgesAt}
 
 pub first_is : (w : DeckWhy) (a b : Option DeckWhy) → a ≡ Some w → (a or b) ≡ Some w
 first_is w a b e = ap (λ (x : Option DeckWhy). x or b) e
@@ -20,3 +22,16 @@ pub then_judges : {X : Type 0} (r : Result X Fault) (a b : Option DeckWhy) → a
 then_judges (Ok x) a b e h = then_is a b None e h
 then_judges (Err faults.Memory) a b e h = tt
 then_judges (Err (faults.Of w)) a b e h = then_is a b (Some w) e h
+
+-- the same of faults with their lines
+pub first_tells_at : (f : DeckFault) (a b : Option Found) → TellsAt f a → TellsAt f (a or b)
+first_tells_at (NoMemory m) a b h = tt
+first_tells_at (At line w) a b h = ap (λ (x : Option Found). x or b) h
+
+pub then_tells_at : (f : DeckFault) (a b : Option Found) → a ≡ None → TellsAt f b → TellsAt f (a or b)
+then_tells_at (NoMemory m) a b e h = tt
+then_tells_at (At line w) a b e h = ap (λ (x : Option Found). x or b) e ∙ h
+
+pub then_judges_at : {X : Type 0} (r : Result X DeckFault) (a b : Option Found) → a ≡ None → JudgesAt r b → JudgesAt r (a or b)
+then_judges_at (Ok x) a b e h = ap (λ (y : Option Found). y or b) e ∙ h
+then_judges_at (Err f) a b e h = then_tells_at f a b e h

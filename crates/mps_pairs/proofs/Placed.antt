@@ -12,7 +12,7 @@ use Rattle.decks.specs.Names.{has, place, add_name, named, put}
 use Rattle.mps_pairs.specs.Seen.{seen_row, state_of}
 use Rattle.decks.specs.Spelling.{Given, row_named}
 use Rattle.lp_nums.specs.Fractions.{Fraction}
-use Rattle.mps_pairs.specs.Known.{KnownGivens}
+use Rattle.mps_pairs.specs.Known.{KnownRowValues}
 use Rattle.decks.specs.Faults.{full_fault}
 use Rattle.decks.proofs.KeptNames.{place_has}
 use Rattle.decks.proofs.KeptParts.{if_none}
@@ -38,8 +38,8 @@ behind_is ns n = by (has ns n) refl
     by true h = let below = place_has ns n h in ne_eqb (place ns n) (length ns) (λ e. absurd (omega (arith, below, e)))
     by false h = eq-eqb _ _ (none_behind (bytes_eq n) ns h)
 
-pub is_behind : (ns : List Name) (n : Name) (i len : ℕ) → i ≡ place ns n → len ≡ length ns → eqb i len ≡ not (has ns n)
-is_behind ns n i len ei el = ap (λ (x : ℕ). eqb x len) ei ∙ ap (λ (x : ℕ). eqb (place ns n) x) el ∙ behind_is ns n
+pub is_new : (ns : List Name) (n : Name) (i len : ℕ) → i ≡ place ns n → len ≡ length ns → eqb i len ≡ not (has ns n)
+is_new ns n i len ei el = ap (λ (x : ℕ). eqb x len) ei ∙ ap (λ (x : ℕ). eqb (place ns n) x) el ∙ behind_is ns n
 
 pub place_within : (ns : List Name) (n : Name) → place ns n ≤ length ns
 place_within ns n = by (has ns n) refl
@@ -91,7 +91,7 @@ none_same f (Some x) e = absurd cc
 pub row_put : (es : List (Name × RowState)) (n : Name) (x : RowState) → row_named (map seen_row es) n ≡ None → map seen_row (put es n x) ≡ map seen_row es ++ seen_row (n, x) ∷ []
 row_put es n x h = ap (map seen_row) (put_new es n x (ap is_some (found_state es n) ∙ none_same state_of (row_named (map seen_row es) n) h)) ∙ map_push seen_row es (n, x)
 
-abbrev pub givens_made : Option Name → List Given → KnownGivens
+abbrev pub givens_made : Option Name → List Given → KnownRowValues
 givens_made set gs = record { set = set; givens = gs }
 
 pub given_put : (set : Option Name) (es new : List Given) (n : Name) (x : Fraction) → new ≡ put es n x → is_some (named es n) ≡ false → givens_made set new ≡ givens_made set (es ++ (n, x) ∷ [])

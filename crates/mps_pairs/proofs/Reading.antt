@@ -9,32 +9,32 @@ use Rattle.decks.specs.declared.deck.Deck.{Deck}
 use Rattle.decks.specs.declared.fault.DeckWhy.TheVariants.{NotClosed}
 use Rattle.decks.specs.declared.fault.DeckFault.{DeckFault}
 use Rattle.decks.specs.declared.fault.DeckFault.TheVariants.{NoMemory, At}
-use Rattle.mps_pairs.specs.declared.sections.Course.{Course}
+use Rattle.mps_pairs.specs.declared.sections.SectionState.{SectionState}
 use Rattle.decks.specs.Sections.{Open}
 use Rattle.decks.specs.Spelling.{size_of, deck_of}
 use Rattle.decks.specs.Faults.{Found, fault_of}
 use Rattle.decks.specs.Texts.{IsClean, Answer, answer, answer_from, judged, ends_deck, read_of, Refuses}
-use Rattle.mps_pairs.specs.Known.{course_of, next_course, Known, known, next_kind, next_known, deck_from, line_fault, TellsAt}
+use Rattle.mps_pairs.specs.Known.{section_state, next_section_state, Known, known, next_kind, next_known, deck_from, line_fault, TellsAt}
 use Rattle.decks.proofs.KeptSlices.{lines_right}
-use Rattle.mps_pairs.proofs.Steps.{course_push, fault_same, known_push, deck_same}
+use Rattle.mps_pairs.proofs.Steps.{section_state_push, fault_same, known_push, deck_same}
 
--- the lines before the rest are clean, the course and the tables are those of these lines, and what they answer with the
+-- the lines before the rest are clean, the state and the tables are those of these lines, and what they answer with the
 -- rest is what the text answers
-pub record Reads (text rest : List ℕ) (c : Course) (k : Known) (number : ℕ) : Type 0 where
+pub record Reads (text rest : List ℕ) (c : SectionState) (k : Known) (number : ℕ) : Type 0 where
   pub before : List Line
   pub clean : IsClean [] before
-  pub course_is : c ≡ course_of before
+  pub state_is : c ≡ section_state before
   pub known_is : k ≡ known before
   pub number_is : number ≡ length before + 1
   pub answer_is : answer_from before (lines_from number (pieces rest)) ≡ answer text
   pub size_is : size_of before + length rest ≡ length text
   pub room : number + length rest ≤ length text + 1
 
-starts : (text : List ℕ) → Reads text text (course_of []) (known []) 1
+starts : (text : List ℕ) → Reads text text (section_state []) (known []) 1
 starts text = record {
   before = [];
   clean = tt;
-  course_is = refl;
+  state_is = refl;
   known_is = refl;
   number_is = refl;
   answer_is = refl;
@@ -42,8 +42,8 @@ starts text = record {
   room = omega arith;
 }
 
-pub starts_at : (text : List ℕ) (c : Course) (k : Known) → c ≡ course_of [] → k ≡ known [] → Reads text text c k 1
-starts_at text c k ec ek = subst (λ (x : Course). Reads text text x k 1) (sym ec) (subst (λ (x : Known). Reads text text (course_of []) x 1) (sym ek) (starts text))
+pub starts_at : (text : List ℕ) (c : SectionState) (k : Known) → c ≡ section_state [] → k ≡ known [] → Reads text text c k 1
+starts_at text c k ec ek = subst (λ (x : SectionState). Reads text text x k 1) (sym ec) (subst (λ (x : Known). Reads text text (section_state []) x 1) (sym ek) (starts text))
 
 -- ---- one line more
 
@@ -56,8 +56,8 @@ size_push : (ls : List Line) (l : Line) → size_of (ls ++ l ∷ []) ≡ size_of
 size_push [] l = omega arith
 size_push (x ∷ ls) l = omega (arith, size_push ls l)
 
-line_here : (text rest : List ℕ) (c : Course) (k : Known) (number : ℕ) (r : Reads text rest c k number) (l : Line) (o : Option Found) → line_fault c k l ≡ o → fault_of r.before l ≡ o
-line_here text rest c k number r l o h = sym (fault_same r.before l (lines_right r.before r.clean)) ∙ sym (λ i. line_fault (r.course_is i) (r.known_is i) l) ∙ h
+line_here : (text rest : List ℕ) (c : SectionState) (k : Known) (number : ℕ) (r : Reads text rest c k number) (l : Line) (o : Option Found) → line_fault c k l ≡ o → fault_of r.before l ≡ o
+line_here text rest c k number r l o h = sym (fault_same r.before l (lines_right r.before r.clean)) ∙ sym (λ i. line_fault (r.state_is i) (r.known_is i) l) ∙ h
 
 one_more : (before : List Line) (n : ℕ) (piece after rest : List ℕ) → pieces rest ≡ piece ∷ pieces after → answer_from before (lines_from n (pieces rest)) ≡ answer_from before (line_of n piece ∷ lines_from (n + 1) (pieces after))
 one_more before n piece after rest e = ap (λ (ps : List (List ℕ)). answer_from before (lines_from n ps)) e
@@ -82,7 +82,7 @@ ends_same s k n Entry fs e = absurd cc
 abbrev done : Deck → ℕ → Answer
 done d place = Ok (d, place)
 
-pub at_end : (text rest piece after : List ℕ) (c : Course) (k k2 : Known) (number : ℕ) → Reads text rest c k number → pieces rest ≡ piece ∷ pieces after → length piece + length after ≡ length rest
+pub at_end : (text rest piece after : List ℕ) (c : SectionState) (k k2 : Known) (number : ℕ) → Reads text rest c k number → pieces rest ≡ piece ∷ pieces after → length piece + length after ≡ length rest
     → line_fault c k (line_of number piece) ≡ None → k2 ≡ next_known c.current k (line_of number piece) → true ≡ ends_deck (line_of number piece).kind → answer text ≡ Ok (deck_from k2 number, length text - length after)
 at_end text rest piece after c k k2 number r e parts h ek ends =
     let l = line_of number piece in
@@ -95,22 +95,22 @@ at_end text rest piece after c k k2 number r e parts h ek ends =
     ∙ judge (fault_of before l) None (ends_deck l.kind) true (read_of before l) (answer_from (before ++ l ∷ []) (lines_from (number + 1) (pieces after))) f (sym ends)
     ∙ (λ i. done (deck i) (place i))
 
-pub goes_on : (text rest piece after : List ℕ) (c c2 : Course) (k k2 : Known) (number : ℕ) → Reads text rest c k number → pieces rest ≡ piece ∷ pieces after → length piece + length after ≡ length rest → 0 < length piece
-    → line_fault c k (line_of number piece) ≡ None → c2 ≡ next_course c (line_of number piece).kind → k2 ≡ next_known c.current k (line_of number piece)
+pub goes_on : (text rest piece after : List ℕ) (c c2 : SectionState) (k k2 : Known) (number : ℕ) → Reads text rest c k number → pieces rest ≡ piece ∷ pieces after → length piece + length after ≡ length rest → 0 < length piece
+    → line_fault c k (line_of number piece) ≡ None → c2 ≡ next_section_state c (line_of number piece).kind → k2 ≡ next_known c.current k (line_of number piece)
     → false ≡ ends_deck (line_of number piece).kind → Reads text after c2 k2 (number + 1)
 goes_on text rest piece after c c2 k k2 number r e parts some h ec ek ends =
     let l = line_of number piece in
     let before = r.before in
     let f = line_here text rest c k number r l None h in
-    let course : c2 ≡ course_of (before ++ l ∷ []) = ec ∙ ap (λ (x : Course). next_course x l.kind) r.course_is ∙ sym (course_push before l) in
-    let tables : k2 ≡ known (before ++ l ∷ []) = ek ∙ (λ i. next_known (r.course_is i).current (r.known_is i) l) ∙ sym (known_push before l (lines_right before r.clean) f) in
+    let state : c2 ≡ section_state (before ++ l ∷ []) = ec ∙ ap (λ (x : SectionState). next_section_state x l.kind) r.state_is ∙ sym (section_state_push before l) in
+    let tables : k2 ≡ known (before ++ l ∷ []) = ek ∙ (λ i. next_known (r.state_is i).current (r.known_is i) l) ∙ sym (known_push before l (lines_right before r.clean) f) in
     let answered : answer_from (before ++ l ∷ []) (lines_from (number + 1) (pieces after)) ≡ answer text =
     sym (judge (fault_of before l) None (ends_deck l.kind) false (read_of before l) (answer_from (before ++ l ∷ []) (lines_from (number + 1) (pieces after))) f (sym ends))
     ∙ sym (one_more before number piece after rest e) ∙ r.answer_is in
     record {
       before = before ++ l ∷ [];
       clean = clean_push [] before l r.clean f (sym ends);
-      course_is = course;
+      state_is = state;
       known_is = tables;
       number_is = omega (arith, r.number_is, length-append before (l ∷ []));
       answer_is = answered;
@@ -118,11 +118,11 @@ goes_on text rest piece after c c2 k k2 number r e parts some h ec ek ends =
       room = omega (arith, r.room, parts, some);
     }
 
-pub not_closed : (text rest : List ℕ) (c : Course) (k : Known) (number : ℕ) → Reads text rest c k number → length rest ≡ 0 → answer text ≡ Err (number, NotClosed)
+pub not_closed : (text rest : List ℕ) (c : SectionState) (k : Known) (number : ℕ) → Reads text rest c k number → length rest ≡ 0 → answer text ≡ Err (number, NotClosed)
 not_closed text [] c k number r h = sym r.answer_is ∙ ap (λ (n : ℕ). Err (n, NotClosed)) (sym r.number_is)
 not_closed text (b ∷ bs) c k number r h = absurd (omega (arith, h))
 
-at_fault : (text rest piece after : List ℕ) (c : Course) (k : Known) (number : ℕ) (f : Found) → Reads text rest c k number → pieces rest ≡ piece ∷ pieces after
+at_fault : (text rest piece after : List ℕ) (c : SectionState) (k : Known) (number : ℕ) (f : Found) → Reads text rest c k number → pieces rest ≡ piece ∷ pieces after
     → line_fault c k (line_of number piece) ≡ Some f → answer text ≡ Err f
 at_fault text rest piece after c k number f r e h =
     let l = line_of number piece in
@@ -130,7 +130,7 @@ at_fault text rest piece after c k number f r e h =
     ∙ judge (fault_of r.before l) (Some f) (ends_deck l.kind) (ends_deck l.kind) (read_of r.before l) (answer_from (r.before ++ l ∷ []) (lines_from (number + 1) (pieces after))) (line_here text rest c k number r l (Some f) h) refl
 
 -- a line's fault is the text's
-pub refuses : (f : DeckFault) (text rest piece after : List ℕ) (c : Course) (k : Known) (number : ℕ) → Reads text rest c k number → pieces rest ≡ piece ∷ pieces after
+pub refuses : (f : DeckFault) (text rest piece after : List ℕ) (c : SectionState) (k : Known) (number : ℕ) → Reads text rest c k number → pieces rest ≡ piece ∷ pieces after
     → TellsAt f (line_fault c k (line_of number piece)) → Refuses f (answer text)
 refuses (NoMemory m) text rest piece after c k number r e h = tt
 refuses (At line w) text rest piece after c k number r e h = at_fault text rest piece after c k number (line, w) r e h

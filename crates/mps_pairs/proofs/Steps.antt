@@ -1,4 +1,4 @@
--- The reader's tables and its course follow the lines.
+-- The reader's tables and its state follow the lines.
 use Rattle.std.proofs.Common.{ℕ, ◌≡◌, Bool, true, false, ◌||◌, List, [], ◌∷◌, ◌++◌, length, map, Option, Some, None, refl, sym, ap, ◌∙◌, arith}
 use Rattle.std.proofs.lemmas.List.Folds.{list_any-append}
 use Rattle.std.specs.List.{AllByRecursion}
@@ -11,12 +11,12 @@ use Rattle.mps_lex.specs.declared.line.LineKind.TheVariants.{Blank, Comment, Hea
 use Rattle.decks.specs.declared.deck.Column.{Column}
 use Rattle.decks.specs.declared.deck.Deck.{Deck}
 use Rattle.decks.specs.declared.fault.DeckWhy.TheVariants.{LeftOutSection}
-use Rattle.mps_pairs.specs.declared.sections.Course.{Course}
+use Rattle.mps_pairs.specs.declared.sections.SectionState.{SectionState}
 use Rattle.decks.specs.Sections.{Open, is_head, is_begun, behind, open_behind, slice}
 use Rattle.decks.specs.Bounds.{settings_in}
 use Rattle.decks.specs.Spelling.{field, rows_of, entries_in, rows_in, column_names, pair_names, deck_of}
 use Rattle.decks.specs.Faults.{◌or◌, Found, found_at, named_at, end_fault, ended_fault, order_fault, data_fault, kind_fault, fault_of, pair_fault}
-use Rattle.mps_pairs.specs.Known.{course_of, next_course, course_fault, Known, known, tables_of, with_data, next_kind, next_known, deck_from, known_fault, known_end_fault, known_kind_fault, line_fault}
+use Rattle.mps_pairs.specs.Known.{section_state, next_section_state, section_order_fault, Known, known, tables_of, with_data, next_kind, next_known, deck_from, known_fault, known_end_fault, known_kind_fault, line_fault}
 use Rattle.decks.proofs.KeptParts.{map_none}
 use Rattle.decks.proofs.KeptRows.{rows_kept}
 use Rattle.decks.proofs.KeptEntries.{IsNamed}
@@ -25,7 +25,7 @@ use Rattle.decks.proofs.KeptSlices.{open_push, Slices, slices_of, next_slices, s
 use Rattle.mps_pairs.proofs.GrowingBounds.{bounds_same, below_same, bounds_push}
 use Rattle.mps_pairs.proofs.Growing.{rows_push, known_columns_push, line_whole, column_fault_same, set_and_givens_push, pairs_push}
 
--- ---- the course
+-- ---- the state
 
 or_none : (b : Bool) → (b || false) ≡ b
 or_none true = refl
@@ -34,26 +34,26 @@ or_none false = refl
 begun_push : (t : Section) (ls : List Line) (l : Line) → is_begun t (ls ++ l ∷ []) ≡ (is_begun t ls || is_head t l.kind)
 begun_push t ls l = list_any-append (λ (x : Line). is_head t x.kind) ls (l ∷ []) ∙ ap (λ (b : Bool). is_begun t ls || b) (or_none (is_head t l.kind))
 
-abbrev course_behind : Course → LineKind → Course
-course_behind c kind = record { current = behind c.current kind; rhs = c.rhs || is_head Rhs kind; ranges = c.ranges || is_head Ranges kind; bounds = c.bounds || is_head Bounds kind }
+abbrev state_behind : SectionState → LineKind → SectionState
+state_behind c kind = record { current = behind c.current kind; rhs = c.rhs || is_head Rhs kind; ranges = c.ranges || is_head Ranges kind; bounds = c.bounds || is_head Bounds kind }
 
-same_course : (c : Course) → record { current = c.current; rhs = c.rhs || false; ranges = c.ranges || false; bounds = c.bounds || false } ≡ c
-same_course c = λ i. record { current = c.current; rhs = or_none c.rhs i; ranges = or_none c.ranges i; bounds = or_none c.bounds i }
+same_state : (c : SectionState) → record { current = c.current; rhs = c.rhs || false; ranges = c.ranges || false; bounds = c.bounds || false } ≡ c
+same_state c = λ i. record { current = c.current; rhs = or_none c.rhs i; ranges = or_none c.ranges i; bounds = or_none c.bounds i }
 
-course_next : (c : Course) (kind : LineKind) → course_behind c kind ≡ next_course c kind
-course_next c Blank = same_course c
-course_next c Comment = same_course c
-course_next c (Head t) = refl
-course_next c LeftOut = same_course c
-course_next c Unknown = same_course c
-course_next c Entry = same_course c
+state_next : (c : SectionState) (kind : LineKind) → state_behind c kind ≡ next_section_state c kind
+state_next c Blank = same_state c
+state_next c Comment = same_state c
+state_next c (Head t) = refl
+state_next c LeftOut = same_state c
+state_next c Unknown = same_state c
+state_next c Entry = same_state c
 
-pub course_push : (ls : List Line) (l : Line) → course_of (ls ++ l ∷ []) ≡ next_course (course_of ls) l.kind
-course_push ls l =
+pub section_state_push : (ls : List Line) (l : Line) → section_state (ls ++ l ∷ []) ≡ next_section_state (section_state ls) l.kind
+section_state_push ls l =
     (λ i. record { current = open_push None ls l i; rhs = begun_push Rhs ls l i; ranges = begun_push Ranges ls l i; bounds = begun_push Bounds ls l i })
-    ∙ course_next (course_of ls) l.kind
+    ∙ state_next (section_state ls) l.kind
 
-order_same : (before : List Line) (t : Section) → course_fault (course_of before) t ≡ order_fault before t
+order_same : (before : List Line) (t : Section) → section_order_fault (section_state before) t ≡ order_fault before t
 order_same before Name = refl
 order_same before Rows = refl
 order_same before Columns = refl
@@ -85,10 +85,10 @@ data_same (Some Pairs) before fs n =
     λ i. pair_fault (rows_of (slice Rows before)) (column_names (slice Columns before)) (λ (c : Word). bounds_same ss c i) (pair_names (slice Pairs before)) fs
 data_same (Some Endata) before fs n = refl
 
-end_same : (before : List Line) (number : ℕ) → known_end_fault (course_of before) (known before) number ≡ ended_fault before number
+end_same : (before : List Line) (number : ℕ) → known_end_fault (section_state before) (known before) number ≡ ended_fault before number
 end_same before number = ap (λ (x : Option ℕ). end_fault (open_behind before) (rows_of (slice Rows before)) x number) (below_same (settings_in (slice Bounds before)))
 
-kind_same : (before : List Line) (number : ℕ) (kind : LineKind) (fs : List Word) → columns_named (slice Columns before) → known_kind_fault (course_of before) (known before) number kind fs ≡ kind_fault before number kind fs
+kind_same : (before : List Line) (number : ℕ) (kind : LineKind) (fs : List Word) → columns_named (slice Columns before) → known_kind_fault (section_state before) (known before) number kind fs ≡ kind_fault before number kind fs
 kind_same before number Blank fs n = refl
 kind_same before number Comment fs n = refl
 kind_same before number (Head t) fs n = λ i. end_same before number i or named_at number (order_same before t i)
@@ -96,7 +96,7 @@ kind_same before number LeftOut fs n = ap (λ (x : Option Found). x or Some (fou
 kind_same before number Unknown fs n = refl
 kind_same before number Entry fs n = ap (named_at number) (data_same (open_behind before) before fs n)
 
-pub fault_same : (before : List Line) (l : Line) → LinesRight before → line_fault (course_of before) (known before) l ≡ fault_of before l
+pub fault_same : (before : List Line) (l : Line) → LinesRight before → line_fault (section_state before) (known before) l ≡ fault_of before l
 fault_same before l right = kind_same before l.number l.kind l.fields (named (open_behind before) before right)
 
 -- ---- the tables

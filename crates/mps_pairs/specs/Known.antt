@@ -18,7 +18,7 @@ use Rattle.decks.specs.declared.deck.Deck.{Deck}
 use Rattle.decks.specs.declared.deck.Column.{Column}
 use Rattle.decks.specs.declared.deck.Entry as entries
 use Rattle.decks.specs.declared.deck.PairLine.{PairLine}
-use Rattle.mps_pairs.specs.declared.sections.Course.{Course}
+use Rattle.mps_pairs.specs.declared.sections.SectionState.{SectionState}
 use Rattle.decks.specs.Decks.{zero}
 use Rattle.decks.specs.Names.{has, add_name, named, put}
 use Rattle.decks.specs.Sections.{Open, same_section, is_begun, open_behind, open_rank, slice, may_follow}
@@ -29,10 +29,10 @@ use Rattle.decks.specs.Faults.{◌or◌, fault_if, row_fault, column_fault, give
 -- ---- the order of heads
 
 -- whether each section of free order is begun, and what stands open
-abbrev pub course_of : List Line → Course
-course_of ls = record { current = open_behind ls; rhs = is_begun section.Rhs ls; ranges = is_begun section.Ranges ls; bounds = is_begun section.Bounds ls }
+abbrev pub section_state : List Line → SectionState
+section_state ls = record { current = open_behind ls; rhs = is_begun section.Rhs ls; ranges = is_begun section.Ranges ls; bounds = is_begun section.Bounds ls }
 
-abbrev pub begun_by : Course → Section → Bool
+abbrev pub begun_by : SectionState → Section → Bool
 begun_by c section.Name = false
 begun_by c section.Rows = false
 begun_by c section.Columns = false
@@ -42,19 +42,19 @@ begun_by c section.Bounds = c.bounds
 begun_by c section.Pairs = false
 begun_by c section.Endata = false
 
-abbrev pub begin : Course → Section → Course
+abbrev pub begin : SectionState → Section → SectionState
 begin c t = record { current = Some t; rhs = c.rhs || same_section section.Rhs t; ranges = c.ranges || same_section section.Ranges t; bounds = c.bounds || same_section section.Bounds t }
 
-abbrev pub next_course : Course → LineKind → Course
-next_course c Blank = c
-next_course c Comment = c
-next_course c (Head t) = begin c t
-next_course c LeftOut = c
-next_course c Unknown = c
-next_course c Entry = c
+abbrev pub next_section_state : SectionState → LineKind → SectionState
+next_section_state c Blank = c
+next_section_state c Comment = c
+next_section_state c (Head t) = begin c t
+next_section_state c LeftOut = c
+next_section_state c Unknown = c
+next_section_state c Entry = c
 
-abbrev pub course_fault : Course → Section → Option DeckWhy
-course_fault c t = fault_if (not (may_follow (open_rank c.current) (begun_by c t) t)) SectionOrder
+abbrev pub section_order_fault : SectionState → Section → Option DeckWhy
+section_order_fault c t = fault_if (not (may_follow (open_rank c.current) (begun_by c t) t)) SectionOrder
 
 -- ---- COLUMNS
 
@@ -98,23 +98,23 @@ with_column rows k fs = with_entries rows (with_name k (field 0 fs)) (entries_on
 -- ---- RHS and RANGES
 
 -- the set, and the rows with their values
-pub record KnownGivens : Type 0 where
+pub record KnownRowValues : Type 0 where
   pub set : Option Name
   pub givens : List Given
 
-abbrev pub known_givens : List Line → KnownGivens
-known_givens ls = record { set = first_set given_set ls; givens = givens_in ls }
+abbrev pub known_row_values : List Line → KnownRowValues
+known_row_values ls = record { set = first_set given_set ls; givens = givens_in ls }
 
 -- the first of the sets, if there is one
 abbrev pub set_or : Option Name → Name → Option Name
 set_or None t = Some t
 set_or (Some s) t = Some s
 
-abbrev pub with_set : KnownGivens → Name → KnownGivens
+abbrev pub with_set : KnownRowValues → Name → KnownRowValues
 with_set k t = record k { set = set_or k.set t }
 
-abbrev pub with_givens : KnownGivens → List Name → KnownGivens
-with_givens k fs = record { set = set_or k.set (given_set fs); givens = k.givens ++ givens_on fs }
+abbrev pub with_row_values : KnownRowValues → List Name → KnownRowValues
+with_row_values k fs = record { set = set_or k.set (given_set fs); givens = k.givens ++ givens_on fs }
 
 -- ---- BOUNDS
 
@@ -130,11 +130,11 @@ abbrev pub known_bounds : List Line → KnownBounds
 known_bounds ls = record { set = first_set bound_set ls; columns = map (bounds_of (settings_in ls)) (bounded (settings_in ls)) }
 
 -- a column that no line names
-abbrev pub free_column : Column
-free_column = record { lower = record { value = Some zero; line = 0 }; upper = record { value = None; line = 0 }; fixed = false }
+abbrev pub default_column : Column
+default_column = record { lower = record { value = Some zero; line = 0 }; upper = record { value = None; line = 0 }; fixed = false }
 
 abbrev pub bounds_with : List (Name × Column) → Name → Column
-bounds_with columns n = unwrap_or (named columns n) free_column
+bounds_with columns n = unwrap_or (named columns n) default_column
 
 -- a column behind a line that names it
 abbrev pub set_by : Setting → Column → Column
@@ -170,8 +170,8 @@ with_pair rows columns k fs = record { names = k.names ++ field 0 fs ∷ []; pai
 pub record Known : Type 0 where
   pub rows : List RowLine
   pub columns : KnownColumns
-  pub rights : KnownGivens
-  pub ranges : KnownGivens
+  pub rights : KnownRowValues
+  pub ranges : KnownRowValues
   pub bounds : KnownBounds
   pub pairs : KnownPairs
 
@@ -180,8 +180,8 @@ abbrev pub tables_of : List Line → List Line → List Line → List Line → L
 tables_of rs cs hs gs bs ps = record {
   rows = rows_of rs;
   columns = known_columns (rows_of rs) cs;
-  rights = known_givens hs;
-  ranges = known_givens gs;
+  rights = known_row_values hs;
+  ranges = known_row_values gs;
   bounds = known_bounds bs;
   pairs = known_pairs (rows_of rs) (column_names cs) ps;
 }
@@ -204,8 +204,8 @@ with_data None k number fs = k
 with_data (Some section.Name) k number fs = k
 with_data (Some section.Rows) k number fs = record k { rows = k.rows ++ row_line k.rows number fs ∷ [] }
 with_data (Some section.Columns) k number fs = record k { columns = with_column k.rows k.columns fs }
-with_data (Some section.Rhs) k number fs = record k { rights = with_givens k.rights fs }
-with_data (Some section.Ranges) k number fs = record k { ranges = with_givens k.ranges fs }
+with_data (Some section.Rhs) k number fs = record k { rights = with_row_values k.rights fs }
+with_data (Some section.Ranges) k number fs = record k { ranges = with_row_values k.ranges fs }
 with_data (Some section.Bounds) k number fs = record k { bounds = with_bound k.bounds number fs }
 with_data (Some section.Pairs) k number fs = record k { pairs = with_pair k.rows k.columns.names k.pairs fs }
 with_data (Some section.Endata) k number fs = k
@@ -234,21 +234,26 @@ known_fault (Some section.Bounds) k fs = bound_fault k.columns.names k.bounds.se
 known_fault (Some section.Pairs) k fs = pair_fault k.rows k.columns.names (bounds_with k.bounds.columns) k.pairs.names fs
 known_fault (Some section.Endata) k fs = Some SectionOrder
 
-abbrev pub known_end_fault : Course → Known → ℕ → Option Found
+abbrev pub known_end_fault : SectionState → Known → ℕ → Option Found
 known_end_fault c k number = end_fault c.current k.rows (below_zero_line (map (λ e. e.1) k.bounds.columns)) number
 
-abbrev pub known_kind_fault : Course → Known → ℕ → LineKind → List Name → Option Found
+abbrev pub known_kind_fault : SectionState → Known → ℕ → LineKind → List Name → Option Found
 known_kind_fault c k number Blank fs = None
 known_kind_fault c k number Comment fs = None
-known_kind_fault c k number (Head t) fs = known_end_fault c k number or named_at number (course_fault c t)
+known_kind_fault c k number (Head t) fs = known_end_fault c k number or named_at number (section_order_fault c t)
 known_kind_fault c k number LeftOut fs = known_end_fault c k number or Some (number, LeftOutSection)
 known_kind_fault c k number Unknown fs = Some (number, UnknownSection)
 known_kind_fault c k number Entry fs = named_at number (known_fault c.current k fs)
 
-abbrev pub line_fault : Course → Known → Line → Option Found
+abbrev pub line_fault : SectionState → Known → Line → Option Found
 line_fault c k l = known_kind_fault c k l.number l.kind l.fields
 
 -- ---- what a call says
+
+-- where a check goes well there is no fault; else it names the fault
+abbrev pub Checks : {X : Type 0} → Result X DeckWhy → Option DeckWhy → Type 0
+Checks (Ok x) o = o ≡ None
+Checks (Err w) o = o ≡ Some w
 
 -- a call's fault is the fault of a line, unless memory is short
 abbrev pub Tells : Fault → Option DeckWhy → Type 0

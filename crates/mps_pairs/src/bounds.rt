@@ -6,13 +6,13 @@ ghost use Rattle.decks.specs.Decks.{IsDeckNumber};
 ghost use Rattle.decks.specs.Names.{has};
 ghost use Rattle.decks.specs.Bounds.{bound_kind, takes_value, bound_words, bound_value, set_in, setting_with, sets_lower, sets_upper, is_fx, lower_by, upper_by, is_below_zero, lesser, below_zero_line};
 ghost use Rattle.decks.specs.Faults.{◌or◌, fault_if, set_fault, unknown_kind_fault, bound_value_fault, bound_words_fault, bound_fault};
-ghost use Rattle.mps_pairs.specs.Known.{known_bounds, bounds_with, free_column, set_or, with_setting, with_settings, with_bound, Judges};
+ghost use Rattle.mps_pairs.specs.Known.{known_bounds, bounds_with, default_column, set_or, with_setting, with_settings, with_bound, Judges};
 ghost use Rattle.mps_pairs.specs.Fields.{seen_fields};
 
 use crate::fault::Fault;
-use crate::givens::set_fault;
 use crate::names::{NameMap, Names};
 use crate::numbers::{is_negative, lower_end, number_of, upper_end};
+use crate::row_values::check_set;
 use decks::{Bound, BoundKind, Column, DeckWhy};
 use lp_nums::Frac;
 use std::alloc::Global;
@@ -180,8 +180,8 @@ fn is_fx(kind: BoundKind) -> bool
 }
 
 // A column that no line names.
-fn free_column() -> Column
-    ensures { result ≡ free_column }
+fn default_column() -> Column
+    ensures { result ≡ default_column }
 {
     Column {
         lower: Bound {
@@ -249,7 +249,7 @@ impl<'a> BoundTable<'a> {
     {
         match self.columns.get(column) {
             Some(found) => found,
-            None => free_column(),
+            None => default_column(),
         }
     }
 
@@ -267,13 +267,11 @@ impl<'a> BoundTable<'a> {
         least
     }
 
-    fn take_set(&mut self, set: &'a [u8]) -> Result<(), Fault>
+    fn parse_set(&mut self, set: &'a [u8]) -> Result<(), Fault>
         ensures fault { Judges result (set_fault self.old.set set.now) }
         ensures ok { OnOk result (self.new ≡ record self.old { set = set_or self.old.set set.now }) }
     {
-        if let Some(why) = set_fault(self.set, set) {
-            return Err(Fault::Of(why));
-        }
+        check_set(self.set, set)?;
         if self.set.is_none() {
             self.set = Some(set);
         }
@@ -305,7 +303,7 @@ impl<'a> BoundTable<'a> {
     }
 
     // Judges a column with its value, and sets its bounds.
-    fn take_value(
+    fn parse_value(
         &mut self,
         columns: &Names<'a>,
         line: u32,
@@ -319,14 +317,12 @@ impl<'a> BoundTable<'a> {
         if !columns.has(column) {
             return Err(Fault::Of(DeckWhy::UnknownName));
         }
-        match value_in(takes_value(kind), value) {
-            Err(why) => Err(Fault::Of(why)),
-            Ok(value) => self.put(kind, line, column, value),
-        }
+        let value = value_in(takes_value(kind), value)?;
+        self.put(kind, line, column, value)
     }
 
     #[tactic(auto, using(crate::proofs::Judging::first_tells, crate::proofs::Judging::then_judges))]
-    fn take_fields(
+    fn parse_fields(
         &mut self,
         columns: &Names<'a>,
         line: u32,
@@ -336,13 +332,11 @@ impl<'a> BoundTable<'a> {
         ensures fault { Judges result (bound_words_fault columns.now self.old.set (takes_value kind) (Some (seen_fields fields.entry))) }
         ensures ok { OnOk result (self.new ≡ record { set = set_or self.old.set fields.entry.set.now; columns = with_settings self.old.columns (setting_with kind line (Some (seen_fields fields.entry))) }) }
     {
-        if let Err(fault) = self.take_set(fields.set) {
-            return Err(fault);
-        }
-        self.take_value(columns, line, kind, fields.column, fields.value)
+        self.parse_set(fields.set)?;
+        self.parse_value(columns, line, kind, fields.column, fields.value)
     }
 
-    fn take_kind(
+    fn parse_kind(
         &mut self,
         columns: &Names<'a>,
         line: u32,
@@ -354,12 +348,17 @@ impl<'a> BoundTable<'a> {
     {
         match bound_fields(takes_value(kind), fields) {
             None => Err(Fault::Of(DeckWhy::FieldCount)),
-            Some(found) => self.take_fields(columns, line, kind, found),
+            Some(found) => self.parse_fields(columns, line, kind, found),
         }
     }
 
-    /// Takes a line of BOUNDS, below these columns.
-    pub fn take(&mut self, columns: &Names<'a>, line: u32, fields: &[&'a [u8]]) -> Result<(), Fault>
+    /// Parses a line of BOUNDS, below these columns.
+    pub fn parse(
+        &mut self,
+        columns: &Names<'a>,
+        line: u32,
+        fields: &[&'a [u8]],
+    ) -> Result<(), Fault>
         ensures fault { Judges result (bound_fault columns.now self.old.set (map shown fields.now)) }
         ensures ok { OnOk result (self.new ≡ with_bound self.old line (map shown fields.now)) }
     {
@@ -367,7 +366,7 @@ impl<'a> BoundTable<'a> {
             [] => Err(Fault::Of(DeckWhy::FieldCount)),
             [word, rest @ ..] => match bound_kind(*word) {
                 None => Err(Fault::Of(unknown_kind(*word))),
-                Some(kind) => self.take_kind(columns, line, kind, rest),
+                Some(kind) => self.parse_kind(columns, line, kind, rest),
             },
         }
     }

@@ -5,7 +5,7 @@ ghost use Rattle.decks.specs.Names.{has, place, add_name};
 ghost use Rattle.decks.specs.Faults.{◌or◌, marker_fault, split_fault, entry_fault, two_entries_fault, full_fault, column_words_fault, column_fault};
 ghost use Rattle.decks.specs.Numbers.{value_of};
 ghost use Rattle.decks.specs.Spelling.{field, entry_at, number_of_row, row_named};
-ghost use Rattle.mps_pairs.specs.Known.{known_columns, rows_here, with_column, Judges};
+ghost use Rattle.mps_pairs.specs.Known.{known_columns, rows_here, with_column, Checks, Judges};
 
 use crate::fault::Fault;
 use crate::names::Names;
@@ -38,17 +38,17 @@ impl<'a> Model for ColumnTable<'a> {
     ghost invariant = { λ t. (length t.names ≤ MOST_COLUMNS) × (t.count ≤ MOST_ENTRIES) };
 }
 
-fn marker_fault(fields: &[&[u8]]) -> Option<DeckWhy>
-    ensures { result ≡ marker_fault (map shown fields.now) }
+fn check_marker(fields: &[&[u8]]) -> Result<(), DeckWhy>
+    ensures { Checks result (marker_fault (map shown fields.now)) }
 {
     match fields {
         [_, row, ..] => {
             if *row == b"'MARKER'".as_slice() {
-                return Some(DeckWhy::IntegerMarker);
+                return Err(DeckWhy::IntegerMarker);
             }
-            None
+            Ok(())
         }
-        _ => None,
+        _ => Ok(()),
     }
 }
 
@@ -91,14 +91,14 @@ impl<'a> ColumnTable<'a> {
         if index + 1 < self.names.len() {
             return Err(DeckWhy::ColumnSplit);
         }
-        if self.names.is_behind(index, column) {
+        if self.names.is_new(index, column) {
             self.here.clear();
         }
         Ok(index)
     }
 
     // Judges a row with its value in the column that `here` is of, and notes the row there.
-    fn take_here(
+    fn parse_here(
         &mut self,
         rows: &RowTable<'a>,
         row: &'a [u8],
@@ -109,28 +109,24 @@ impl<'a> ColumnTable<'a> {
         ensures value { IfOk result (λ x. x.value ≡ value_of value.now) }
         ensures ok { OnOk result (self.new ≡ record self.old { here = self.old.here ++ row.now ∷ [] }) }
     {
-        match row_value(rows, self.here.has(row), row, value) {
-            Err(why) => Err(Fault::Of(why)),
-            Ok(found) => {
-                self.here.push(row)?;
-                Ok(found)
-            }
-        }
+        let found = row_value(rows, self.here.has(row), row, value)?;
+        self.here.push(row)?;
+        Ok(found)
     }
 
-    fn full_fault(&self, index: usize, column: &'a [u8], more: u32) -> Option<DeckWhy>
+    fn check_room(&self, index: usize, column: &'a [u8], more: u32) -> Result<(), DeckWhy>
         requires few { more ≤ 2 }
         requires index { index ≡ place self.now.names column.now }
-        ensures fault { result ≡ full_fault self.now.names self.now.count column.now more }
-        ensures names { result ≡ None → length (add_name self.now.names column.now) ≤ MOST_COLUMNS }
-        ensures count { result ≡ None → self.now.count + more ≤ MOST_ENTRIES }
+        ensures fault { Checks result (full_fault self.now.names self.now.count column.now more) }
+        ensures names { OnOk result (length (add_name self.now.names column.now) ≤ MOST_COLUMNS) }
+        ensures count { OnOk result (self.now.count + more ≤ MOST_ENTRIES) }
     {
-        if (self.names.is_behind(index, column) && self.names.len() >= MOST_COLUMNS)
+        if (self.names.is_new(index, column) && self.names.len() >= MOST_COLUMNS)
             || (self.count + more) as usize > MOST_ENTRIES
         {
-            return Some(DeckWhy::TooMany);
+            return Err(DeckWhy::TooMany);
         }
-        None
+        Ok(())
     }
 
     // Adds the column's name, if it is new.
@@ -140,7 +136,7 @@ impl<'a> ColumnTable<'a> {
         ensures fault { Judges result None }
         ensures ok { OnOk result (self.new ≡ record self.old { names = add_name self.old.names column.now }) }
     {
-        if self.names.is_behind(index, column) {
+        if self.names.is_new(index, column) {
             self.names.push(column)?;
         }
         Ok(())
@@ -181,15 +177,9 @@ impl<'a> ColumnTable<'a> {
         ensures few { OnOk result (length (add_name self.old.names column.now) ≤ MOST_COLUMNS) }
         ensures room { OnOk result (self.old.count + 1 ≤ MOST_ENTRIES) }
     {
-        match self.take_here(rows, row, value) {
-            Err(fault) => Err(fault),
-            Ok(found) => {
-                if let Some(why) = self.full_fault(index, column, 1) {
-                    return Err(Fault::Of(why));
-                }
-                Ok(found)
-            }
-        }
+        let found = self.parse_here(rows, row, value)?;
+        self.check_room(index, column, 1)?;
+        Ok(found)
     }
 
     // Adds the column, if it is new, and its entry.
@@ -200,14 +190,12 @@ impl<'a> ColumnTable<'a> {
         ensures fault { Judges result None }
         ensures ok { OnOk result (self.new ≡ record self.old { names = add_name self.old.names column.now; count = self.old.count + 1; entries = self.old.entries ++ entry_at index found.value found.number }) }
     {
-        if let Err(fault) = self.add_name(index, column) {
-            return Err(fault);
-        }
+        self.add_name(index, column)?;
         self.add(index as u32, found)
     }
 
     #[tactic(auto, using(crate::proofs::Judging::first_tells, crate::proofs::Judging::then_judges))]
-    fn take_one(
+    fn parse_one(
         &mut self,
         rows: &RowTable<'a>,
         column: &'a [u8],
@@ -217,13 +205,9 @@ impl<'a> ColumnTable<'a> {
         ensures fault { Judges result (column_words_fault rows.now self.old.names (rows_here self.old column.now) self.old.count (column.now ∷ row.now ∷ value.now ∷ [])) }
         ensures ok { OnOk result (self.new ≡ with_column rows.now self.old (column.now ∷ row.now ∷ value.now ∷ [])) }
     {
-        match self.begin(column) {
-            Err(why) => Err(Fault::Of(why)),
-            Ok(index) => match self.judge_one(rows, index, column, row, value) {
-                Err(fault) => Err(fault),
-                Ok(found) => self.add_one(index, column, found),
-            },
-        }
+        let index = self.begin(column)?;
+        let found = self.judge_one(rows, index, column, row, value)?;
+        self.add_one(index, column, found)
     }
 
     // Judges the two entries of a line, behind the column.
@@ -243,13 +227,9 @@ impl<'a> ColumnTable<'a> {
         ensures second_value { IfOk result (λ x. x.1.value ≡ value_of other.now) }
         ensures ok { OnOk result (self.new ≡ record self.old { here = (self.old.here ++ row.now ∷ []) ++ second.now ∷ [] }) }
     {
-        match self.take_here(rows, row, value) {
-            Err(fault) => Err(fault),
-            Ok(first) => match self.take_here(rows, second, other) {
-                Err(fault) => Err(fault),
-                Ok(found) => Ok((first, found)),
-            },
-        }
+        let first = self.parse_here(rows, row, value)?;
+        let found = self.parse_here(rows, second, other)?;
+        Ok((first, found))
     }
 
     // Adds the column, if it is new, and its entries.
@@ -266,18 +246,14 @@ impl<'a> ColumnTable<'a> {
         ensures fault { Judges result None }
         ensures ok { OnOk result (self.new ≡ record self.old { names = add_name self.old.names column.now; count = (self.old.count + 1) + 1; entries = (self.old.entries ++ entry_at index first.value first.number) ++ entry_at index second.value second.number }) }
     {
-        if let Err(fault) = self.add_name(index, column) {
-            return Err(fault);
-        }
-        if let Err(fault) = self.add(index as u32, first) {
-            return Err(fault);
-        }
+        self.add_name(index, column)?;
+        self.add(index as u32, first)?;
         self.add(index as u32, second)
     }
 
     // Judges and adds the entries of a line, behind the column.
     #[tactic(auto, using(crate::proofs::Judging::first_tells, crate::proofs::Judging::then_judges))]
-    fn take_both(
+    fn parse_both(
         &mut self,
         rows: &RowTable<'a>,
         index: usize,
@@ -296,19 +272,13 @@ impl<'a> ColumnTable<'a> {
           entries = (self.old.entries ++ entry_at index (value_of value.now) (number_of_row (row_named rows.now row.now))) ++ entry_at index (value_of other.now) (number_of_row (row_named rows.now second.now));
         }) }
     {
-        match self.judge_two(rows, row, value, second, other) {
-            Err(fault) => Err(fault),
-            Ok((first, found)) => {
-                if let Some(why) = self.full_fault(index, column, 2) {
-                    return Err(Fault::Of(why));
-                }
-                self.add_two(index, column, first, found)
-            }
-        }
+        let (first, found) = self.judge_two(rows, row, value, second, other)?;
+        self.check_room(index, column, 2)?;
+        self.add_two(index, column, first, found)
     }
 
     #[tactic(auto, using(crate::proofs::Judging::first_tells, crate::proofs::Judging::then_judges))]
-    fn take_two(
+    fn parse_two(
         &mut self,
         rows: &RowTable<'a>,
         column: &'a [u8],
@@ -320,34 +290,30 @@ impl<'a> ColumnTable<'a> {
         ensures fault { Judges result (column_words_fault rows.now self.old.names (rows_here self.old column.now) self.old.count (column.now ∷ row.now ∷ value.now ∷ second.now ∷ other.now ∷ [])) }
         ensures ok { OnOk result (self.new ≡ with_column rows.now self.old (column.now ∷ row.now ∷ value.now ∷ second.now ∷ other.now ∷ [])) }
     {
-        match self.begin(column) {
-            Err(why) => Err(Fault::Of(why)),
-            Ok(index) => self.take_both(rows, index, column, row, value, second, other),
-        }
+        let index = self.begin(column)?;
+        self.parse_both(rows, index, column, row, value, second, other)
     }
 
-    fn take_words(&mut self, rows: &RowTable<'a>, fields: &[&'a [u8]]) -> Result<(), Fault>
+    fn parse_words(&mut self, rows: &RowTable<'a>, fields: &[&'a [u8]]) -> Result<(), Fault>
         ensures fault { Judges result (column_words_fault rows.now self.old.names (rows_here self.old (field 0 (map shown fields.now))) self.old.count (map shown fields.now)) }
         ensures ok { OnOk result (self.new ≡ with_column rows.now self.old (map shown fields.now)) }
     {
         match fields {
-            [column, row, value] => self.take_one(rows, *column, *row, *value),
+            [column, row, value] => self.parse_one(rows, *column, *row, *value),
             [column, row, value, second, other] => {
-                self.take_two(rows, *column, *row, *value, *second, *other)
+                self.parse_two(rows, *column, *row, *value, *second, *other)
             }
             _ => Err(Fault::Of(DeckWhy::FieldCount)),
         }
     }
 
-    /// Takes a line of COLUMNS, below these rows.
+    /// Parses a line of COLUMNS, below these rows.
     #[tactic(auto, using(crate::proofs::Judging::first_tells, crate::proofs::Judging::then_judges))]
-    pub fn take(&mut self, rows: &RowTable<'a>, fields: &[&'a [u8]]) -> Result<(), Fault>
+    pub fn parse(&mut self, rows: &RowTable<'a>, fields: &[&'a [u8]]) -> Result<(), Fault>
         ensures fault { Judges result (column_fault rows.now self.old.names (rows_here self.old (field 0 (map shown fields.now))) self.old.count (map shown fields.now)) }
         ensures ok { OnOk result (self.new ≡ with_column rows.now self.old (map shown fields.now)) }
     {
-        if let Some(why) = marker_fault(fields) {
-            return Err(Fault::Of(why));
-        }
-        self.take_words(rows, fields)
+        check_marker(fields)?;
+        self.parse_words(rows, fields)
     }
 }

@@ -1,6 +1,6 @@
 //! Why a line is not taken.
 ghost use Rattle.std.specs.Prelude.{◌≡◌};
-ghost use Rattle.mps_pairs.specs.declared.fault.Fault.TheVariants.{Memory};
+ghost use Rattle.mps_pairs.specs.declared.fault.Fault.TheVariants.{Memory, Of};
 
 use decks::DeckWhy;
 use std::alloc::{AllocError, AllocFailed};
@@ -25,5 +25,13 @@ impl<T: Drop> From<AllocFailed<T>> for Fault {
 
     fn from(_e: AllocFailed<T>) -> Fault {
         Fault::Memory
+    }
+}
+
+impl From<DeckWhy> for Fault {
+    ghost from_gives = { λ why f. f ≡ Of why };
+
+    fn from(why: DeckWhy) -> Fault {
+        Fault::Of(why)
     }
 }

@@ -50,7 +50,7 @@ impl<'a> Names<'a> {
     }
 
     /// Whether the place of a name is behind all others, so that it is not there.
-    pub fn is_behind(&self, index: usize, name: &'a [u8]) -> bool
+    pub fn is_new(&self, index: usize, name: &'a [u8]) -> bool
         requires { index ≡ place self.now name.now }
         ensures { result ≡ not (has self.now name.now) }
     {

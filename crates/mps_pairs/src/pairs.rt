@@ -6,7 +6,8 @@ ghost use Rattle.decks.specs.Names.{has, place};
 ghost use Rattle.decks.specs.Spelling.{is_col, number_of_row, row_named, quantity_of};
 ghost use Rattle.decks.specs.Decks.{is_inequality};
 ghost use Rattle.decks.specs.Faults.{◌or◌, is_kind, is_free_from_zero, column_quantity_fault, row_quantity_fault, quantity_fault, pair_front_fault, quantities_fault, many_pairs_fault, pair_fault};
-ghost use Rattle.mps_pairs.specs.Known.{bounds_with, known_pairs, with_pair, Judges};
+ghost use Rattle.mps_pairs.specs.Fields.{pair_words};
+ghost use Rattle.mps_pairs.specs.Known.{bounds_with, known_pairs, with_pair, Checks, Judges};
 
 use crate::bounds::BoundTable;
 use crate::fault::Fault;
@@ -32,6 +33,16 @@ impl<'a> Model for PairTable<'a> {
     ghost Value = { KnownPairs };
 
     ghost view = { λ t. record { names = t.names; pairs = t.pairs } };
+}
+
+/// The fields of a line of PAIRS: a name, and twice a kind with a name.
+#[derive(Clone, Copy)]
+pub struct PairFields<'a> {
+    name: &'a [u8],
+    kind: &'a [u8],
+    first: &'a [u8],
+    other: &'a [u8],
+    second: &'a [u8],
 }
 
 fn is_col(word: &[u8]) -> bool
@@ -72,7 +83,7 @@ fn column_quantity<'a>(
     ensures fault { IfErr result (λ w. column_quantity_fault columns.now (bounds_with bounds.now.columns) name.now ≡ Some w) }
 {
     let index = columns.place(name);
-    if columns.is_behind(index, name) {
+    if columns.is_new(index, name) {
         return Err(DeckWhy::UnknownName);
     }
     if !is_free_from_zero(bounds.bounds(name)) {
@@ -121,23 +132,15 @@ fn quantities<'a>(
     rows: &RowTable<'a>,
     columns: &Names<'a>,
     bounds: &BoundTable<'a>,
-    kind: &'a [u8],
-    name: &'a [u8],
-    other: &'a [u8],
-    second: &'a [u8],
+    fields: PairFields<'a>,
 ) -> Result<PairLine, DeckWhy>
     requires { length columns.now ≤ MOST_COLUMNS }
-    ensures right { IfOk result (λ q. quantities_fault rows.now columns.now (bounds_with bounds.now.columns) kind.now name.now other.now second.now ≡ None) }
-    ensures value { IfOk result (λ q. q ≡ record { a = quantity_of rows.now columns.now kind.now name.now; b = quantity_of rows.now columns.now other.now second.now }) }
-    ensures fault { IfErr result (λ w. quantities_fault rows.now columns.now (bounds_with bounds.now.columns) kind.now name.now other.now second.now ≡ Some w) }
+    ensures fault { Checks result (quantities_fault rows.now columns.now (bounds_with bounds.now.columns) fields.entry.kind.now fields.entry.first.now fields.entry.other.now fields.entry.second.now) }
+    ensures value { IfOk result (λ q. q ≡ record { a = quantity_of rows.now columns.now fields.entry.kind.now fields.entry.first.now; b = quantity_of rows.now columns.now fields.entry.other.now fields.entry.second.now }) }
 {
-    match quantity(rows, columns, bounds, kind, name) {
-        Err(why) => Err(why),
-        Ok(a) => match quantity(rows, columns, bounds, other, second) {
-            Err(why) => Err(why),
-            Ok(b) => Ok(PairLine { a, b }),
-        },
-    }
+    let a = quantity(rows, columns, bounds, fields.kind, fields.first)?;
+    let b = quantity(rows, columns, bounds, fields.other, fields.second)?;
+    Ok(PairLine { a, b })
 }
 
 impl<'a> PairTable<'a> {
@@ -157,17 +160,18 @@ impl<'a> PairTable<'a> {
         replace(&mut self.pairs, Sequence::new(alloc))
     }
 
-    // What is wrong with a pair's kinds or its name.
-    fn front_fault(&self, name: &'a [u8], kind: &'a [u8], other: &'a [u8]) -> Option<DeckWhy>
-        ensures { result ≡ pair_front_fault self.now.names name.now kind.now other.now }
+    // Checks the kinds of a pair, and that its name is new.
+    fn check_front(&self, fields: PairFields<'a>) -> Result<(), DeckWhy>
+        ensures fault { Checks result (pair_front_fault self.now.names fields.entry.name.now fields.entry.kind.now fields.entry.other.now) }
+        ensures fresh { OnOk result (has self.now.names fields.entry.name.now ≡ false) }
     {
-        if !is_kind(kind) || !is_kind(other) {
-            return Some(DeckWhy::PairKind);
+        if !is_kind(fields.kind) || !is_kind(fields.other) {
+            return Err(DeckWhy::PairKind);
         }
-        if self.names.has(name) {
-            return Some(DeckWhy::NameTwice);
+        if self.names.has(fields.name) {
+            return Err(DeckWhy::NameTwice);
         }
-        None
+        Ok(())
     }
 
     fn push(&mut self, name: &'a [u8], pair: PairLine) -> Result<(), Fault>
@@ -185,52 +189,40 @@ impl<'a> PairTable<'a> {
 
     // Judges the quantities of a pair, and adds it.
     #[tactic(auto, using(crate::proofs::Judging::first_tells, crate::proofs::Judging::then_judges))]
-    fn take_quantities(
+    fn parse_quantities(
         &mut self,
         rows: &RowTable<'a>,
         columns: &Names<'a>,
         bounds: &BoundTable<'a>,
-        name: &'a [u8],
-        kind: &'a [u8],
-        first: &'a [u8],
-        other: &'a [u8],
-        second: &'a [u8],
+        fields: PairFields<'a>,
     ) -> Result<(), Fault>
         requires few { length columns.now ≤ MOST_COLUMNS }
-        requires fresh { has self.old.names name.now ≡ false }
-        ensures fault { Judges result (quantities_fault rows.now columns.now (bounds_with bounds.now.columns) kind.now first.now other.now second.now or many_pairs_fault self.old.names) }
-        ensures ok { OnOk result (self.new ≡ with_pair rows.now columns.now self.old (name.now ∷ kind.now ∷ first.now ∷ other.now ∷ second.now ∷ [])) }
+        requires fresh { has self.old.names fields.name.now ≡ false }
+        ensures fault { Judges result (quantities_fault rows.now columns.now (bounds_with bounds.now.columns) fields.entry.kind.now fields.entry.first.now fields.entry.other.now fields.entry.second.now or many_pairs_fault self.old.names) }
+        ensures ok { OnOk result (self.new ≡ with_pair rows.now columns.now self.old (pair_words fields.entry)) }
     {
-        match quantities(rows, columns, bounds, kind, first, other, second) {
-            Err(why) => Err(Fault::Of(why)),
-            Ok(pair) => self.push(name, pair),
-        }
+        let pair = quantities(rows, columns, bounds, fields)?;
+        self.push(fields.name, pair)
     }
 
     #[tactic(auto, using(crate::proofs::Judging::first_tells, crate::proofs::Judging::then_judges))]
-    fn take_pair(
+    fn parse_pair(
         &mut self,
         rows: &RowTable<'a>,
         columns: &Names<'a>,
         bounds: &BoundTable<'a>,
-        name: &'a [u8],
-        kind: &'a [u8],
-        first: &'a [u8],
-        other: &'a [u8],
-        second: &'a [u8],
+        fields: PairFields<'a>,
     ) -> Result<(), Fault>
         requires few { length columns.now ≤ MOST_COLUMNS }
-        ensures fault { Judges result (pair_fault rows.now columns.now (bounds_with bounds.now.columns) self.old.names (name.now ∷ kind.now ∷ first.now ∷ other.now ∷ second.now ∷ [])) }
-        ensures ok { OnOk result (self.new ≡ with_pair rows.now columns.now self.old (name.now ∷ kind.now ∷ first.now ∷ other.now ∷ second.now ∷ [])) }
+        ensures fault { Judges result (pair_fault rows.now columns.now (bounds_with bounds.now.columns) self.old.names (pair_words fields.entry)) }
+        ensures ok { OnOk result (self.new ≡ with_pair rows.now columns.now self.old (pair_words fields.entry)) }
     {
-        if let Some(why) = self.front_fault(name, kind, other) {
-            return Err(Fault::Of(why));
-        }
-        self.take_quantities(rows, columns, bounds, name, kind, first, other, second)
+        self.check_front(fields)?;
+        self.parse_quantities(rows, columns, bounds, fields)
     }
 
-    /// Takes a line of PAIRS, below these rows, columns and bounds.
-    pub fn take(
+    /// Parses a line of PAIRS, below these rows, columns and bounds.
+    pub fn parse(
         &mut self,
         rows: &RowTable<'a>,
         columns: &Names<'a>,
@@ -242,8 +234,17 @@ impl<'a> PairTable<'a> {
         ensures ok { OnOk result (self.new ≡ with_pair rows.now columns.now self.old (map shown fields.now)) }
     {
         match fields {
-            [name, kind, first, other, second] => self.take_pair(
-                rows, columns, bounds, *name, *kind, *first, *other, *second,
+            [name, kind, first, other, second] => self.parse_pair(
+                rows,
+                columns,
+                bounds,
+                PairFields {
+                    name: *name,
+                    kind: *kind,
+                    first: *first,
+                    other: *other,
+                    second: *second,
+                },
             ),
             _ => Err(Fault::Of(DeckWhy::FieldCount)),
         }

@@ -9,10 +9,10 @@ ghost use Rattle.decks.specs.declared.fault.DeckFault.TheVariants.{At};
 ghost use Rattle.decks.specs.Decks.{IsDeck};
 ghost use Rattle.decks.specs.Faults.{◌or◌, named_at};
 ghost use Rattle.decks.specs.Texts.{Spells, Fails, FailsAs, ends_deck, answer, Refuses, Gives};
-ghost use Rattle.mps_pairs.specs.Known.{Tells, TellsAt, JudgesAt, known, course_of, begin, next_course, course_fault, known_fault, known_end_fault, line_fault, with_data, next_known, deck_from};
+ghost use Rattle.mps_pairs.specs.Known.{Tells, TellsAt, JudgesAt, known, section_state, begin, next_section_state, section_order_fault, known_fault, known_end_fault, line_fault, with_data, next_known, deck_from};
 
 use crate::fault::Fault;
-use crate::sections::Course;
+use crate::sections::SectionState;
 use crate::tables::Tables;
 use decks::{Deck, DeckFault, DeckWhy};
 use mps_lex::{LineKind, Section, SplitLine, first_piece, line_of};
@@ -28,77 +28,71 @@ fn at_line(fault: Fault, number: u32) -> DeckFault
     }
 }
 
-// What a section lacks that a head of this number ends.
-fn end_fault<'a>(course: Course, tables: &Tables<'a>, number: u32) -> Option<(u32, DeckWhy)>
-    ensures { result ≡ known_end_fault course tables.now number }
+// Checks what a section has that a head of this number ends.
+fn check_end<'a>(state: SectionState, tables: &Tables<'a>, number: u32) -> Result<(), DeckFault>
+    ensures { JudgesAt result (known_end_fault state tables.now number) }
 {
-    match course.current {
+    match state.current {
         Some(Section::Rows) => {
             if tables.has_objective() {
-                return None;
+                return Ok(());
             }
-            Some((number, DeckWhy::NoObjective))
+            Err(DeckFault::At {
+                line: number,
+                why: DeckWhy::NoObjective,
+            })
         }
         Some(Section::Bounds) => match tables.below_zero() {
-            Some(line) => Some((line, DeckWhy::UpperBelowZero)),
-            None => None,
+            Some(line) => Err(DeckFault::At {
+                line,
+                why: DeckWhy::UpperBelowZero,
+            }),
+            None => Ok(()),
         },
-        _ => None,
+        _ => Ok(()),
     }
 }
 
-fn head_fault<'a>(
-    course: Course,
-    tables: &Tables<'a>,
-    number: u32,
-    next: Section,
-) -> Option<(u32, DeckWhy)>
-    ensures { result ≡ (known_end_fault course tables.now number or named_at number (course_fault course next)) }
+fn check_order(state: SectionState, number: u32, next: Section) -> Result<(), DeckFault>
+    ensures { JudgesAt result (named_at number (section_order_fault state next)) }
 {
-    if let Some(found) = end_fault(course, tables, number) {
-        return Some(found);
-    }
-    match course.fault(next) {
-        Some(why) => Some((number, why)),
-        None => None,
+    match state.check(next) {
+        Ok(()) => Ok(()),
+        Err(why) => Err(DeckFault::At { line: number, why }),
     }
 }
 
-fn left_out_fault<'a>(course: Course, tables: &Tables<'a>, number: u32) -> (u32, DeckWhy)
-    ensures { Some result ≡ (known_end_fault course tables.now number or Some (number, LeftOutSection)) }
+// The fault of a section that decks leave out.
+#[tactic(auto, using(crate::proofs::Judging::first_tells_at, crate::proofs::Judging::then_tells_at))]
+fn left_out<'a>(state: SectionState, tables: &Tables<'a>, number: u32) -> DeckFault
+    ensures { TellsAt result (known_end_fault state tables.now number or Some (number, LeftOutSection)) }
 {
-    match end_fault(course, tables, number) {
-        Some(found) => found,
-        None => (number, DeckWhy::LeftOutSection),
+    match check_end(state, tables, number) {
+        Err(fault) => fault,
+        Ok(()) => DeckFault::At {
+            line: number,
+            why: DeckWhy::LeftOutSection,
+        },
     }
 }
 
-fn as_fault(found: (u32, DeckWhy)) -> DeckFault
-    ensures { result ≡ At found.0 found.1 }
-{
-    DeckFault::At {
-        line: found.0,
-        why: found.1,
-    }
-}
-
-fn take_head<'a>(
-    course: &mut Course,
+#[tactic(auto, using(crate::proofs::Judging::first_tells_at, crate::proofs::Judging::then_judges_at))]
+fn parse_head<'a>(
+    state: &mut SectionState,
     tables: &Tables<'a>,
     number: u32,
     next: Section,
 ) -> Result<(), DeckFault>
-    ensures fault { JudgesAt result (known_end_fault course.old tables.now number or named_at number (course_fault course.old next)) }
-    ensures course { OnOk result (course.new ≡ begin course.old next) }
+    ensures fault { JudgesAt result (known_end_fault state.old tables.now number or named_at number (section_order_fault state.old next)) }
+    ensures state { OnOk result (state.new ≡ begin state.old next) }
 {
-    if let Some(found) = head_fault(*course, tables, number, next) {
-        return Err(as_fault(found));
-    }
-    *course = course.begin(next);
+    check_end(*state, tables, number)?;
+    check_order(*state, number, next)?;
+    *state = state.begin(next);
     Ok(())
 }
 
-fn take_entry<'a>(
+fn parse_entry<'a>(
     current: Option<Section>,
     tables: &mut Tables<'a>,
     line: &SplitLine<'a>,
@@ -106,21 +100,21 @@ fn take_entry<'a>(
     ensures fault { JudgesAt result (named_at (seen_line line.now).number (known_fault current tables.old (seen_line line.now).fields)) }
     ensures tables { OnOk result (tables.new ≡ with_data current tables.old (seen_line line.now).number (seen_line line.now).fields) }
 {
-    match tables.take_data(current, line.number, &line.fields) {
+    match tables.parse_data(current, line.number, &line.fields) {
         Err(fault) => Err(at_line(fault, line.number)),
         Ok(()) => Ok(()),
     }
 }
 
-// Takes a line by its kind.
-fn take_line<'a>(
-    course: &mut Course,
+// Parses a line by its kind.
+fn parse_line<'a>(
+    state: &mut SectionState,
     tables: &mut Tables<'a>,
     line: &SplitLine<'a>,
 ) -> Result<(), DeckFault>
-    ensures fault { JudgesAt result (line_fault course.old tables.old (seen_line line.now)) }
-    ensures course { OnOk result (course.new ≡ next_course course.old (seen_line line.now).kind) }
-    ensures tables { OnOk result (tables.new ≡ next_known course.old.current tables.old (seen_line line.now)) }
+    ensures fault { JudgesAt result (line_fault state.old tables.old (seen_line line.now)) }
+    ensures state { OnOk result (state.new ≡ next_section_state state.old (seen_line line.now).kind) }
+    ensures tables { OnOk result (tables.new ≡ next_known state.old.current tables.old (seen_line line.now)) }
 {
     match line.kind {
         LineKind::Blank | LineKind::Comment => Ok(()),
@@ -128,9 +122,9 @@ fn take_line<'a>(
             line: line.number,
             why: DeckWhy::UnknownSection,
         }),
-        LineKind::LeftOut => Err(as_fault(left_out_fault(*course, tables, line.number))),
-        LineKind::Head(next) => take_head(course, tables, line.number, next),
-        LineKind::Entry => take_entry(course.current, tables, line),
+        LineKind::LeftOut => Err(left_out(*state, tables, line.number)),
+        LineKind::Head(next) => parse_head(state, tables, line.number, next),
+        LineKind::Entry => parse_entry(state.current, tables, line),
     }
 }
 
@@ -140,37 +134,37 @@ fn ends_deck(kind: LineKind) -> bool
     matches!(kind, LineKind::Head(Section::Endata))
 }
 
-// Takes a piece of the text, and says whether it ends the deck.
-fn take_piece<'a>(
+// Parses a piece of the text, and says whether it ends the deck.
+fn parse_piece<'a>(
     alloc: Global,
-    course: &mut Course,
+    state: &mut SectionState,
     tables: &mut Tables<'a>,
     number: u32,
     piece: &'a [u8],
 ) -> Result<bool, DeckFault>
-    ensures fault { JudgesAt result (line_fault course.old tables.old (line_of number piece.now)) }
-    ensures course { OnOk result (course.new ≡ next_course course.old (line_of number piece.now).kind) }
-    ensures tables { OnOk result (tables.new ≡ next_known course.old.current tables.old (line_of number piece.now)) }
+    ensures fault { JudgesAt result (line_fault state.old tables.old (line_of number piece.now)) }
+    ensures state { OnOk result (state.new ≡ next_section_state state.old (line_of number piece.now).kind) }
+    ensures tables { OnOk result (tables.new ≡ next_known state.old.current tables.old (line_of number piece.now)) }
     ensures ends { IfOk result (λ b. b ≡ ends_deck (line_of number piece.now).kind) }
 {
     match line_of(alloc, number, piece) {
         Err(error) => Err(DeckFault::NoMemory(error)),
-        Ok(line) => match take_line(course, tables, &line) {
-            Ok(()) => Ok(ends_deck(line.kind)),
-            Err(fault) => Err(fault),
-        },
+        Ok(line) => {
+            parse_line(state, tables, &line)?;
+            Ok(ends_deck(line.kind))
+        }
     }
 }
 
 // Reads the lines up to ENDATA, and gives its line and the place behind it.
 fn read_lines<'a>(
     alloc: Global,
-    course: &mut Course,
+    state: &mut SectionState,
     tables: &mut Tables<'a>,
     text: &'a [u8],
 ) -> Result<(u32, usize), DeckFault>
     requires room { length text.now < 2 ^ 32 - 1 }
-    requires course { course.old ≡ course_of [] }
+    requires state { state.old ≡ section_state [] }
     requires tables { tables.old ≡ known [] }
     ensures deck { IfOk result (λ r. answer text.now ≡ Ok (deck_from tables.new r.0, r.1)) }
     ensures within { IfOk result (λ r. r.1 ≤ length text.now) }
@@ -180,7 +174,7 @@ fn read_lines<'a>(
     let mut number: u32 = 1;
     while !rest.is_empty() {
         let (piece, after) = first_piece(rest);
-        match take_piece(alloc, course, tables, number, piece) {
+        match parse_piece(alloc, state, tables, number, piece) {
             Ok(true) => return Ok((number, text.len() - after.len())),
             Ok(false) => {}
             Err(fault) => return Err(fault),
@@ -199,9 +193,9 @@ fn answer(alloc: Global, text: &[u8]) -> Result<(Deck, usize), DeckFault>
     ensures gives { Gives result (answer text.now) }
     ensures within { IfOk result (λ r. r.1 ≤ length text.now) }
 {
-    let mut course = Course::new();
+    let mut state = SectionState::new();
     let mut tables = Tables::new(alloc);
-    match read_lines(alloc, &mut course, &mut tables, text) {
+    match read_lines(alloc, &mut state, &mut tables, text) {
         Err(fault) => Err(fault),
         Ok((end_line, place)) => match tables.take_deck(alloc, end_line) {
             Ok(deck) => Ok((deck, place)),

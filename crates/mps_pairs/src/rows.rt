@@ -3,7 +3,7 @@ ghost use Rattle.std.specs.Prelude.{◌≡◌, ◌≤◌, ℕ, List, None, Some,
 ghost use Rattle.mps_lex.specs.Shown.{shown};
 ghost use Rattle.decks.specs.Numbers.{value_of};
 ghost use Rattle.decks.specs.Faults.{is_letter, many_rows_fault, row_fault, entry_fault};
-ghost use Rattle.mps_pairs.specs.Known.{Judges};
+ghost use Rattle.mps_pairs.specs.Known.{Checks, Judges};
 ghost use Rattle.decks.specs.Spelling.{RowLine, letter_of, is_n, has_objective, kept, number_behind, number_of_row, row_line, other_rows, row_named};
 ghost use Rattle.mps_pairs.specs.Seen.{seen_row, shown_row, state_of};
 
@@ -122,28 +122,28 @@ impl<'a> RowTable<'a> {
         self.held.len()
     }
 
-    fn many_fault(&self, letter: &'a [u8]) -> Option<DeckWhy>
-        ensures value { result ≡ many_rows_fault self.now letter.now }
-        ensures room { result ≡ None → (row : RowLine) → row.letter ≡ letter_of letter.now → other_rows (self.now ++ row ∷ []) ≤ MOST_ROWS }
+    fn check_room(&self, letter: &'a [u8]) -> Result<(), DeckWhy>
+        ensures fault { Checks result (many_rows_fault self.now letter.now) }
+        ensures room { OnOk result ((row : RowLine) → row.letter ≡ letter_of letter.now → other_rows (self.now ++ row ∷ []) ≤ MOST_ROWS) }
     {
         if !is_n(letter_of(letter)) && self.others as usize >= MOST_ROWS {
-            return Some(DeckWhy::TooMany);
+            return Err(DeckWhy::TooMany);
         }
-        None
+        Ok(())
     }
 
-    fn fault(&self, letter: &'a [u8], name: &'a [u8]) -> Option<DeckWhy>
-        ensures value { result ≡ row_fault self.now (letter.now ∷ name.now ∷ []) }
-        ensures fresh { result ≡ None → row_named self.now name.now ≡ None }
-        ensures room { result ≡ None → (row : RowLine) → row.letter ≡ letter_of letter.now → other_rows (self.now ++ row ∷ []) ≤ MOST_ROWS }
+    fn check(&self, letter: &'a [u8], name: &'a [u8]) -> Result<(), DeckWhy>
+        ensures fault { Checks result (row_fault self.now (letter.now ∷ name.now ∷ [])) }
+        ensures fresh { OnOk result (row_named self.now name.now ≡ None) }
+        ensures room { OnOk result ((row : RowLine) → row.letter ≡ letter_of letter.now → other_rows (self.now ++ row ∷ []) ≤ MOST_ROWS) }
     {
         if !is_letter(letter) {
-            return Some(DeckWhy::RowLetter);
+            return Err(DeckWhy::RowLetter);
         }
         if self.find(name).is_some() {
-            return Some(DeckWhy::NameTwice);
+            return Err(DeckWhy::NameTwice);
         }
-        self.many_fault(letter)
+        self.check_room(letter)
     }
 
     fn number_behind(&self, letter: Letter) -> Option<u32>
@@ -170,13 +170,11 @@ impl<'a> RowTable<'a> {
         Ok(())
     }
 
-    fn take_row(&mut self, line: u32, letter: &'a [u8], name: &'a [u8]) -> Result<(), Fault>
+    fn parse_row(&mut self, line: u32, letter: &'a [u8], name: &'a [u8]) -> Result<(), Fault>
         ensures fault { Judges result (row_fault self.old (letter.now ∷ name.now ∷ [])) }
         ensures ok { OnOk result (self.new ≡ self.old ++ row_line self.old line (letter.now ∷ name.now ∷ []) ∷ []) }
     {
-        if let Some(why) = self.fault(letter, name) {
-            return Err(Fault::Of(why));
-        }
+        self.check(letter, name)?;
         let letter = letter_of(letter);
         let number = self.number_behind(letter);
         self.push(
@@ -190,13 +188,13 @@ impl<'a> RowTable<'a> {
         Ok(())
     }
 
-    /// Takes a line of ROWS.
-    pub fn take(&mut self, line: u32, fields: &[&'a [u8]]) -> Result<(), Fault>
+    /// Parses a line of ROWS.
+    pub fn parse(&mut self, line: u32, fields: &[&'a [u8]]) -> Result<(), Fault>
         ensures fault { Judges result (row_fault self.old (map shown fields.now)) }
         ensures ok { OnOk result (self.new ≡ self.old ++ row_line self.old line (map shown fields.now) ∷ []) }
     {
         match fields {
-            [letter, name] => self.take_row(line, *letter, *name),
+            [letter, name] => self.parse_row(line, *letter, *name),
             _ => Err(Fault::Of(DeckWhy::FieldCount)),
         }
     }
@@ -222,19 +220,15 @@ pub fn row_value<'a>(
     ensures value { IfOk result (λ x. x.value ≡ value_of value.now) }
     ensures fault { IfErr result (λ w. entry_fault rows.now twice row.now value.now ≡ Some w) }
 {
-    match rows.find(row) {
-        None => Err(DeckWhy::UnknownName),
-        Some(found) => {
-            if twice {
-                return Err(DeckWhy::EntryTwice);
-            }
-            match number_of(value) {
-                Err(why) => Err(why),
-                Ok(value) => Ok(RowValue {
-                    number: found.number,
-                    value,
-                }),
-            }
-        }
+    let Some(found) = rows.find(row) else {
+        return Err(DeckWhy::UnknownName);
+    };
+    if twice {
+        return Err(DeckWhy::EntryTwice);
     }
+    let value = number_of(value)?;
+    Ok(RowValue {
+        number: found.number,
+        value,
+    })
 }

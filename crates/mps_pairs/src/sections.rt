@@ -1,15 +1,15 @@
 //! The order of sections.
 ghost use Rattle.std.specs.Prelude.{◌≡◌, ◌||◌, Some, None, false};
 ghost use Rattle.decks.specs.Sections.{section_number, same_section, rank, open_rank, may_follow};
-ghost use Rattle.mps_pairs.specs.Known.{begin, begun_by, course_fault};
-ghost use Rattle.mps_pairs.specs.declared.sections.Course as known;
+ghost use Rattle.mps_pairs.specs.Known.{begin, begun_by, section_order_fault, Checks};
+ghost use Rattle.mps_pairs.specs.declared.sections.SectionState as known;
 
 use decks::DeckWhy;
 use mps_lex::Section;
 
 /// What stands open, and which sections are begun of those that come in any order.
 #[derive(Clone, Copy)]
-pub struct Course {
+pub struct SectionState {
     pub current: Option<Section>,
     pub rhs: bool,
     pub ranges: bool,
@@ -72,12 +72,12 @@ fn may_follow(from: u8, begun: bool, next: Section) -> bool
     }
 }
 
-impl Course {
+impl SectionState {
     /// Nothing is begun.
-    pub fn new() -> Course
+    pub fn new() -> SectionState
         ensures { result ≡ record { current = None; rhs = false; ranges = false; bounds = false } }
     {
-        Course {
+        SectionState {
             current: None,
             rhs: false,
             ranges: false,
@@ -97,21 +97,21 @@ impl Course {
         }
     }
 
-    /// Whether a head stands out of its order.
-    pub fn fault(self, next: Section) -> Option<DeckWhy>
-        ensures { result ≡ course_fault self next }
+    /// Checks that a head stands in its order.
+    pub fn check(self, next: Section) -> Result<(), DeckWhy>
+        ensures { Checks result (section_order_fault self next) }
     {
         if !may_follow(open_rank(self.current), self.has_begun(next), next) {
-            return Some(DeckWhy::SectionOrder);
+            return Err(DeckWhy::SectionOrder);
         }
-        None
+        Ok(())
     }
 
     /// Begins a section.
-    pub fn begin(self, next: Section) -> Course
+    pub fn begin(self, next: Section) -> SectionState
         ensures { result ≡ begin self next }
     {
-        Course {
+        SectionState {
             current: Some(next),
             rhs: self.rhs || is_same(Section::Rhs, next),
             ranges: self.ranges || is_same(Section::Ranges, next),

@@ -13,9 +13,9 @@ ghost use Rattle.decks.specs.Decks.{zero};
 use crate::bounds::BoundTable;
 use crate::columns::ColumnTable;
 use crate::fault::Fault;
-use crate::givens::GivenTable;
 use crate::names::Names;
 use crate::pairs::PairTable;
+use crate::row_values::RowValueTable;
 use crate::rows::{RowState, RowTable, is_n};
 use decks::{Column, Deck, DeckWhy, Letter, Row};
 use lp_base::Sequence;
@@ -29,8 +29,8 @@ use std::marker::Model;
 pub struct Tables<'a> {
     rows: RowTable<'a>,
     columns: ColumnTable<'a>,
-    rights: GivenTable<'a>,
-    ranges: GivenTable<'a>,
+    rights: RowValueTable<'a>,
+    ranges: RowValueTable<'a>,
     bounds: BoundTable<'a>,
     pairs: PairTable<'a>,
 }
@@ -44,7 +44,7 @@ impl<'a> Model for Tables<'a> {
 }
 
 // The right-hand side of a row, or 0.
-fn right_of<'a>(rights: &GivenTable<'a>, name: &'a [u8]) -> Frac
+fn right_of<'a>(rights: &RowValueTable<'a>, name: &'a [u8]) -> Frac
     ensures { result ≡ unwrap_or (named rights.now.givens name.now) zero }
 {
     match rights.value(name) {
@@ -54,7 +54,7 @@ fn right_of<'a>(rights: &GivenTable<'a>, name: &'a [u8]) -> Frac
 }
 
 // The range of a row, if it has one.
-fn range_of<'a>(ranges: &GivenTable<'a>, name: &'a [u8], letter: Letter) -> Option<Frac>
+fn range_of<'a>(ranges: &RowValueTable<'a>, name: &'a [u8], letter: Letter) -> Option<Frac>
     ensures { result ≡ (if is_n letter then None else named ranges.now.givens name.now) }
 {
     if is_n(letter) {
@@ -66,8 +66,8 @@ fn range_of<'a>(ranges: &GivenTable<'a>, name: &'a [u8], letter: Letter) -> Opti
 // Adds a row, if it is one of the deck.
 fn add_row<'a>(
     found: &mut Sequence<Row>,
-    rights: &GivenTable<'a>,
-    ranges: &GivenTable<'a>,
+    rights: &RowValueTable<'a>,
+    ranges: &RowValueTable<'a>,
     name: &'a [u8],
     row: RowState,
 ) -> Result<(), AllocError>
@@ -89,8 +89,8 @@ fn add_row<'a>(
 fn deck_rows<'a>(
     alloc: Global,
     rows: &RowTable<'a>,
-    rights: &GivenTable<'a>,
-    ranges: &GivenTable<'a>,
+    rights: &RowValueTable<'a>,
+    ranges: &RowValueTable<'a>,
 ) -> Result<Sequence<Row>, AllocError>
     ensures rows { IfOk result (λ found. found ≡ map (deck_row rights.now.givens ranges.now.givens) (kept rows.now)) }
     ensures few { IfOk result (λ found. length found ≤ 2001) }
@@ -146,8 +146,8 @@ impl<'a> Tables<'a> {
         Tables {
             rows: RowTable::new(alloc),
             columns: ColumnTable::new(alloc),
-            rights: GivenTable::new(alloc),
-            ranges: GivenTable::new(alloc),
+            rights: RowValueTable::new(alloc),
+            ranges: RowValueTable::new(alloc),
             bounds: BoundTable::new(alloc),
             pairs: PairTable::new(alloc),
         }
@@ -168,23 +168,23 @@ impl<'a> Tables<'a> {
         self.bounds.below_zero()
     }
 
-    fn take_bound(&mut self, number: u32, fields: &[&'a [u8]]) -> Result<(), Fault>
+    fn parse_bound(&mut self, number: u32, fields: &[&'a [u8]]) -> Result<(), Fault>
         ensures fault { Judges result (bound_fault self.old.columns.names self.old.bounds.set (map shown fields.now)) }
         ensures ok { OnOk result (self.new ≡ record self.old { bounds = with_bound self.old.bounds number (map shown fields.now) }) }
     {
-        self.bounds.take(self.columns.names(), number, fields)
+        self.bounds.parse(self.columns.names(), number, fields)
     }
 
-    fn take_pair(&mut self, fields: &[&'a [u8]]) -> Result<(), Fault>
+    fn parse_pair(&mut self, fields: &[&'a [u8]]) -> Result<(), Fault>
         ensures fault { Judges result (pair_fault self.old.rows self.old.columns.names (bounds_with self.old.bounds.columns) self.old.pairs.names (map shown fields.now)) }
         ensures ok { OnOk result (self.new ≡ record self.old { pairs = with_pair self.old.rows self.old.columns.names self.old.pairs (map shown fields.now) }) }
     {
         self.pairs
-            .take(&self.rows, self.columns.names(), &self.bounds, fields)
+            .parse(&self.rows, self.columns.names(), &self.bounds, fields)
     }
 
     /// Takes a data line of what stands open.
-    pub fn take_data(
+    pub fn parse_data(
         &mut self,
         current: Option<Section>,
         number: u32,
@@ -194,12 +194,12 @@ impl<'a> Tables<'a> {
         ensures ok { OnOk result (self.new ≡ with_data current self.old number (map shown fields.now)) }
     {
         match current {
-            Some(Section::Rows) => self.rows.take(number, fields),
-            Some(Section::Columns) => self.columns.take(&self.rows, fields),
-            Some(Section::Rhs) => self.rights.take(&self.rows, fields),
-            Some(Section::Ranges) => self.ranges.take(&self.rows, fields),
-            Some(Section::Bounds) => self.take_bound(number, fields),
-            Some(Section::Pairs) => self.take_pair(fields),
+            Some(Section::Rows) => self.rows.parse(number, fields),
+            Some(Section::Columns) => self.columns.parse(&self.rows, fields),
+            Some(Section::Rhs) => self.rights.parse(&self.rows, fields),
+            Some(Section::Ranges) => self.ranges.parse(&self.rows, fields),
+            Some(Section::Bounds) => self.parse_bound(number, fields),
+            Some(Section::Pairs) => self.parse_pair(fields),
             None | Some(Section::Name | Section::Endata) => {
                 Err(Fault::Of(DeckWhy::SectionOrder))
             }

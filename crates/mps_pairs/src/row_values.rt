@@ -4,7 +4,7 @@ ghost use Rattle.mps_lex.specs.Shown.{shown};
 ghost use Rattle.decks.specs.Names.{named};
 ghost use Rattle.decks.specs.Faults.{◌or◌, set_fault, one_given_fault, two_givens_fault, givens_fault};
 ghost use Rattle.decks.specs.Spelling.{given};
-ghost use Rattle.mps_pairs.specs.Known.{known_givens, with_givens, with_set, set_or, Judges};
+ghost use Rattle.mps_pairs.specs.Known.{known_row_values, with_row_values, with_set, set_or, Checks, Judges};
 
 use crate::fault::Fault;
 use crate::names::NameMap;
@@ -16,41 +16,41 @@ use std::marker::Model;
 
 /// The rows of a section with their values, and the name of the set.
 #[derive(Drop)]
-pub struct GivenTable<'a> {
+pub struct RowValueTable<'a> {
     set: Option<&'a [u8]>,
     givens: NameMap<'a, Frac>,
 }
 
-impl<'a> Model for GivenTable<'a> {
+impl<'a> Model for RowValueTable<'a> {
     ghost use Rattle.std.specs.Prelude.{option_map};
-    ghost use Rattle.mps_pairs.specs.Known.{KnownGivens};
+    ghost use Rattle.mps_pairs.specs.Known.{KnownRowValues};
     ghost use Rattle.mps_lex.specs.Shown.{shown};
 
-    ghost Value = { KnownGivens };
+    ghost Value = { KnownRowValues };
 
     ghost view = { λ t. record { set = option_map shown t.set; givens = t.givens } };
 }
 
 /// Whether this is another set than the first one, if there is one.
-pub fn set_fault(first: Option<&[u8]>, name: &[u8]) -> Option<DeckWhy>
-    ensures { result ≡ set_fault (option_map shown first.entry) name.now }
+pub fn check_set(first: Option<&[u8]>, name: &[u8]) -> Result<(), DeckWhy>
+    ensures { Checks result (set_fault (option_map shown first.entry) name.now) }
 {
     match first {
-        None => None,
+        None => Ok(()),
         Some(first) => {
             if first != name {
-                return Some(DeckWhy::SecondSet);
+                return Err(DeckWhy::SecondSet);
             }
-            None
+            Ok(())
         }
     }
 }
 
-impl<'a> GivenTable<'a> {
-    pub fn new(alloc: Global) -> GivenTable<'a>
-        ensures { result ≡ known_givens [] }
+impl<'a> RowValueTable<'a> {
+    pub fn new(alloc: Global) -> RowValueTable<'a>
+        ensures { result ≡ known_row_values [] }
     {
-        GivenTable {
+        RowValueTable {
             set: None,
             givens: NameMap::new(alloc),
         }
@@ -63,13 +63,11 @@ impl<'a> GivenTable<'a> {
         self.givens.get(row)
     }
 
-    fn take_set(&mut self, set: &'a [u8]) -> Result<(), Fault>
+    fn parse_set(&mut self, set: &'a [u8]) -> Result<(), Fault>
         ensures fault { Judges result (set_fault self.old.set set.now) }
         ensures ok { OnOk result (self.new ≡ with_set self.old set.now) }
     {
-        if let Some(why) = set_fault(self.set, set) {
-            return Err(Fault::Of(why));
-        }
+        check_set(self.set, set)?;
         if self.set.is_none() {
             self.set = Some(set);
         }
@@ -85,19 +83,22 @@ impl<'a> GivenTable<'a> {
         Ok(())
     }
 
-    fn take_one(&mut self, rows: &RowTable<'a>, row: &'a [u8], value: &'a [u8]) -> Result<(), Fault>
+    fn parse_one(
+        &mut self,
+        rows: &RowTable<'a>,
+        row: &'a [u8],
+        value: &'a [u8],
+    ) -> Result<(), Fault>
         ensures fault { Judges result (one_given_fault rows.now self.old.givens row.now value.now) }
         ensures ok { OnOk result (self.new ≡ record self.old { givens = self.old.givens ++ given row.now value.now ∷ [] }) }
     {
         let twice = self.value(row).is_some();
-        match row_value(rows, twice, row, value) {
-            Err(why) => Err(Fault::Of(why)),
-            Ok(found) => self.add(row, found.value),
-        }
+        let found = row_value(rows, twice, row, value)?;
+        self.add(row, found.value)
     }
 
     #[tactic(auto, using(crate::proofs::Judging::first_tells, crate::proofs::Judging::then_judges))]
-    fn take_two(
+    fn parse_two(
         &mut self,
         rows: &RowTable<'a>,
         row: &'a [u8],
@@ -108,14 +109,12 @@ impl<'a> GivenTable<'a> {
         ensures fault { Judges result (two_givens_fault rows.now self.old.givens row.now value.now second.now other.now) }
         ensures ok { OnOk result (self.new ≡ record self.old { givens = (self.old.givens ++ given row.now value.now ∷ []) ++ given second.now other.now ∷ [] }) }
     {
-        if let Err(fault) = self.take_one(rows, row, value) {
-            return Err(fault);
-        }
-        self.take_one(rows, second, other)
+        self.parse_one(rows, row, value)?;
+        self.parse_one(rows, second, other)
     }
 
     #[tactic(auto, using(crate::proofs::Judging::first_tells, crate::proofs::Judging::then_judges))]
-    fn take_set_one(
+    fn parse_set_one(
         &mut self,
         rows: &RowTable<'a>,
         set: &'a [u8],
@@ -125,14 +124,12 @@ impl<'a> GivenTable<'a> {
         ensures fault { Judges result (set_fault self.old.set set.now or one_given_fault rows.now self.old.givens row.now value.now) }
         ensures ok { OnOk result (self.new ≡ record { set = set_or self.old.set set.now; givens = self.old.givens ++ given row.now value.now ∷ [] }) }
     {
-        if let Err(fault) = self.take_set(set) {
-            return Err(fault);
-        }
-        self.take_one(rows, row, value)
+        self.parse_set(set)?;
+        self.parse_one(rows, row, value)
     }
 
     #[tactic(auto, using(crate::proofs::Judging::first_tells, crate::proofs::Judging::then_judges))]
-    fn take_set_two(
+    fn parse_set_two(
         &mut self,
         rows: &RowTable<'a>,
         set: &'a [u8],
@@ -144,25 +141,23 @@ impl<'a> GivenTable<'a> {
         ensures fault { Judges result (set_fault self.old.set set.now or two_givens_fault rows.now self.old.givens row.now value.now second.now other.now) }
         ensures ok { OnOk result (self.new ≡ record { set = set_or self.old.set set.now; givens = (self.old.givens ++ given row.now value.now ∷ []) ++ given second.now other.now ∷ [] }) }
     {
-        if let Err(fault) = self.take_set(set) {
-            return Err(fault);
-        }
-        self.take_two(rows, row, value, second, other)
+        self.parse_set(set)?;
+        self.parse_two(rows, row, value, second, other)
     }
 
-    /// Takes a line of the section, below these rows.
-    pub fn take(&mut self, rows: &RowTable<'a>, fields: &[&'a [u8]]) -> Result<(), Fault>
+    /// Parses a line of the section, below these rows.
+    pub fn parse(&mut self, rows: &RowTable<'a>, fields: &[&'a [u8]]) -> Result<(), Fault>
         ensures fault { Judges result (givens_fault rows.now self.old.set self.old.givens (map shown fields.now)) }
-        ensures ok { OnOk result (self.new ≡ with_givens self.old (map shown fields.now)) }
+        ensures ok { OnOk result (self.new ≡ with_row_values self.old (map shown fields.now)) }
     {
         match fields {
-            [row, value] => self.take_set_one(rows, b"".as_slice(), *row, *value),
-            [set, row, value] => self.take_set_one(rows, *set, *row, *value),
+            [row, value] => self.parse_set_one(rows, b"".as_slice(), *row, *value),
+            [set, row, value] => self.parse_set_one(rows, *set, *row, *value),
             [row, value, second, other] => {
-                self.take_set_two(rows, b"".as_slice(), *row, *value, *second, *other)
+                self.parse_set_two(rows, b"".as_slice(), *row, *value, *second, *other)
             }
             [set, row, value, second, other] => {
-                self.take_set_two(rows, *set, *row, *value, *second, *other)
+                self.parse_set_two(rows, *set, *row, *value, *second, *other)
             }
             _ => Err(Fault::Of(DeckWhy::FieldCount)),
         }

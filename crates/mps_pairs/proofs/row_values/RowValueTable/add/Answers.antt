@@ -1,10 +1,10 @@
 use Rattle.std.proofs.Common.{subst, sym, ◌≡◌, is_some, false}
 use Rattle.decks.specs.Names.{named}
-use Rattle.mps_pairs.specs.Known.{KnownGivens}
+use Rattle.mps_pairs.specs.Known.{KnownRowValues}
 use Rattle.mps_pairs.proofs.Placed.{given_put}
-use Rattle.mps_pairs.proofs.givens.GivenTable.add.Goals as goal
+use Rattle.mps_pairs.proofs.row_values.RowValueTable.add.Goals as goal
 
 pub returns-clause-ok : goal.returns-clause-ok
 returns-clause-ok c =
-    let fresh = subst (λ (k : KnownGivens). is_some (named k.givens c.args.row.now) ≡ false) (sym c.self.view_is) c.requires in
+    let fresh = subst (λ (k : KnownRowValues). is_some (named k.givens c.args.row.now) ≡ false) (sym c.self.view_is) c.requires in
     rw (← c.self.view_is) (given_put _ c.self.inside.givens c.put.new.self c.args.row.now c.args.value c.in_ok-put.ensures.ok fresh)
