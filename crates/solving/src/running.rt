@@ -15,10 +15,10 @@ use command::{
     read_case,
 };
 use deck_case::verdicts_are_those_of_the_deck;
+use decks::spelled_decks_keep;
 use engine::solve_alone;
 use lp_io::{Sink, Source};
 use lpcc_case::Case;
-use decks::spelled_decks_keep;
 use play::{Ending, Options};
 use report::{status_of, text_of};
 use std::alloc::Global;
