@@ -67,9 +67,6 @@ add_row rs l = rs ++ row_line rs l.number l.fields ∷ []
 abbrev pub rows_of : List Line → List RowLine
 rows_of ls = fold add_row [] ls
 
-abbrev pub row_names : List RowLine → List Name
-row_names rs = map (λ r. r.name) rs
-
 -- the rows other than N rows
 abbrev pub other_rows : List RowLine → ℕ
 other_rows rs = count_by (λ r. not (is_n r.letter)) rs
