@@ -1,5 +1,8 @@
 //! Points and directions with whole numbers.
+ghost use Rattle.std.specs.Prelude.{◌≡◌, IfOk};
+
 use lp_base::Sequence;
+use std::alloc::{AllocError, Global};
 
 /// The point `x / d`, a number for each column over one denominator, with `z` the sum of the costs
 /// times `x`.
@@ -8,6 +11,19 @@ pub struct Point {
     pub d: i64,
     pub x: Sequence<i64>,
     pub z: i128,
+}
+
+impl Point {
+    /// An equal point.
+    pub fn copy(&self, alloc: Global) -> Result<Point, AllocError>
+        ensures { IfOk result (λ made. made ≡ self.now) }
+    {
+        Ok(Point {
+            d: self.d,
+            x: self.x.copy(alloc)?,
+            z: self.z,
+        })
+    }
 }
 
 /// A direction: how far each column goes.

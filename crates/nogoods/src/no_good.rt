@@ -49,6 +49,15 @@ impl NoGood {
         }))
     }
 
+    /// An equal no-good.
+    pub fn copy(&self, alloc: Global) -> Result<NoGood, AllocError>
+        ensures { IfOk result (λ made. made ≡ self.now) }
+    {
+        Ok(NoGood {
+            held: SmallVec::from_slice(alloc, self.held.as_slice())?,
+        })
+    }
+
     /// The choices, their pairs ascending strictly.
     pub fn choices(&self) -> &[Choice]
         ensures list { result.now ≡ self.now }

@@ -1,11 +1,12 @@
 //! Pieces of the feasible set, one for each way to choose a side of every pair.
-ghost use Rattle.std.specs.Prelude.{◌≡◌, ◌↔◌, ℕ, List, Contains, IsTrue, Some, slice_get, false, true};
+ghost use Rattle.std.specs.Prelude.{◌≡◌, ◌↔◌, ℕ, List, Contains, IfOk, IsTrue, Some, slice_get, false, true};
 ghost use Rattle.nogoods.specs.declared.choice.Choice.{Choice as ChosenSide};
 ghost use Rattle.nogoods.specs.declared.choice.Side.{Side as Member};
 ghost use Rattle.nogoods.specs.Pieces.{Bars, precedes};
 
 use crate::{Choice, NoGood, Side};
 use lp_base::Sequence;
+use std::alloc::{AllocError, Global};
 use std::marker::Model;
 
 /// One side for each pair. Contracts see the list of the sides.
@@ -29,6 +30,15 @@ impl Piece {
         ensures { result ≡ sides }
     {
         Piece { sides }
+    }
+
+    /// An equal piece.
+    pub fn copy(&self, alloc: Global) -> Result<Piece, AllocError>
+        ensures { IfOk result (λ made. made ≡ self.now) }
+    {
+        Ok(Piece {
+            sides: self.sides.copy(alloc)?,
+        })
     }
 
     /// The sides, pair by pair.

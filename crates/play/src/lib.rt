@@ -7,6 +7,7 @@ mod ending;
 mod event;
 mod laws;
 mod outcome;
+mod piece_choices;
 
 pub use ending::Ending;
 pub use event::{Aside, Direction, Event, Options, ShrinkMode, Ticket, VerdictKind};
@@ -15,3 +16,4 @@ pub use laws::{
     concluded_verdicts_are_true, lawful_events_keep_the_truth, pieces_last,
 };
 pub use outcome::{Cause, Outcome};
+pub use piece_choices::choices_of;
