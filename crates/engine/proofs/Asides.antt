@@ -28,7 +28,7 @@ use Rattle.play.specs.Records.{IsNext, Leads}
 use Rattle.play.specs.Endings.{IsEnding, aside_of}
 use Rattle.engine.specs.Solved.{IsEnded, IsSolved, IsTrueAside, IsTrueCause, PiecesLast, PivotsLast, VerdictsAreShown}
 use Rattle.engine.proofs.Endings.{ending_accepted, ending_distinct, ending_number, ending_true, solved_pieces}
-use Rattle.desk.specs.Desks.{IsEndingOf}
+use Rattle.desk_part.specs.DeskParts.{IsEndingOf}
 
 outcome_asides : (a : Instance) (o : Options) (t : Ticket) (what : Outcome) (d : Part) → IsTrueOutcome a o t what → All (IsTrueAside a o) d.aside → All (IsTrueAside a o) (take_outcome t what d).aside
 outcome_asides a o t (outcome.Cut c kept best) d true_it all = all

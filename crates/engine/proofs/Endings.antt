@@ -26,7 +26,7 @@ use Rattle.play.specs.Endings.{IsEnding}
 use Rattle.play.proofs.Draws.{carried_standing, pieces_last}
 use Rattle.play.proofs.CertLaws.{cert_accepted}
 use Rattle.play.proofs.TrimLaws.{cert_backed}
-use Rattle.desk.specs.Desks.{IsEndingOf}
+use Rattle.desk_part.specs.DeskParts.{IsEndingOf}
 use Rattle.engine.specs.Solved.{IsSolved, PiecesLast}
 
 -- what the certificate claims is what was concluded

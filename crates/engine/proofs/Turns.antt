@@ -16,11 +16,11 @@ use Rattle.play.specs.declared.outcome.Outcome.TheVariants as outcome
 use Rattle.play.specs.Parts.{Part, flight_of, without}
 use Rattle.play.specs.Steps.{after, settle, take_open}
 use Rattle.play.specs.Records.{Leads}
-use Rattle.desk.specs.declared.answer.Draw.{Draw as Answer}
-use Rattle.desk.specs.declared.answer.Draw.TheVariants as draw
-use Rattle.desk.specs.Desks.{AddedBy, Draws, DrawsOn, IsLearn, IsOver, MayBeSettled, Settles, SettlesOn, Standing, conclusion}
+use Rattle.desk_part.specs.declared.answer.Draw.{Draw as Answer}
+use Rattle.desk_part.specs.declared.answer.Draw.TheVariants as draw
+use Rattle.desk_part.specs.DeskParts.{AddedBy, Draws, DrawsOn, IsLearn, IsOver, MayBeSettled, Settles, SettlesOn, Standing, conclusion}
 use Rattle.play.specs.declared.ending.Ending.{Ending}
-use Rattle.desk.specs.Desks.{EndingKeepsForm, IsEndingOfRecord}
+use Rattle.desk_part.specs.DeskParts.{EndingKeepsForm, IsEndingOfRecord}
 use Rattle.engine.specs.Solved.{IsEnded}
 use Rattle.engine.specs.Outcomes.{IsOutcomeOf}
 use Rattle.engine.specs.Turns.{Holds, IsDeskOf, IsTurn, IsWaiting}

@@ -20,7 +20,7 @@ use Rattle.play.specs.Points.{choices_of}
 use Rattle.walks.specs.Ends.{IsSpentAt, IsWideAt}
 use Rattle.play.specs.Steps.{drawn_in}
 use Rattle.play.specs.Truth.{AreDistinct}
-use Rattle.desk.specs.Desks.{EndingKeepsForm, IsEndingOf, IsEndingOfRecord}
+use Rattle.desk_part.specs.DeskParts.{EndingKeepsForm, IsEndingOf, IsEndingOfRecord}
 
 -- the same options for one worker
 abbrev pub alone : Options → Options

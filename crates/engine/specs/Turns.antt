@@ -4,7 +4,7 @@ use Rattle.lpcc_case.specs.Instance.{Instance}
 use Rattle.lpcc_case.specs.Pieces.{IsPiece}
 use Rattle.play.specs.declared.event.Options.{Options}
 use Rattle.play.specs.declared.event.Ticket.{Ticket}
-use Rattle.desk.specs.Desks.{IsOver, Standing}
+use Rattle.desk_part.specs.DeskParts.{IsOver, Standing}
 
 -- the desk is that of this run
 pub record IsDeskOf (a : Instance) (o : Options) (s : Standing) : Type 0 where

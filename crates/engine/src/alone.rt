@@ -4,7 +4,7 @@ ghost use Rattle.engine.specs.Solved.{IsEnded, IsSolved, PiecesLast, PivotsLast,
 
 use crate::outcome::Knowledge;
 use crate::turn::turn;
-use desk::Desk;
+use desk_part::RecordedPart;
 use lpcc_case::Case;
 use play::{Ending, Options};
 use shrink::KnownPoints;
@@ -15,7 +15,7 @@ fn run(alloc: Global, case: &Case, options: &Options) -> Result<Ending, AllocErr
     requires one { options.now.workers ≡ 1 }
     ensures { IfOk result (IsEnded case.now options.now) }
 {
-    let mut desk = Desk::create(alloc, case, options)?;
+    let mut desk = RecordedPart::create(alloc, case, options)?;
     let mut known = Knowledge {
         incumbent: None,
         points: KnownPoints::new(alloc),

@@ -17,7 +17,7 @@ ghost use Rattle.play.specs.Points.{choices_of};
 ghost use Rattle.walks.specs.Ends.{IsSpentAt, IsWideAt};
 ghost use Rattle.play.specs.Steps.{drawn_in};
 ghost use Rattle.play.specs.Truth.{AreDistinct};
-ghost use Rattle.desk.specs.Desks.{IsEndingOf};
+ghost use Rattle.desk_part.specs.DeskParts.{IsEndingOf};
 ghost use Rattle.engine.specs.Solved.{IsSolved, PiecesLast, PivotsLast};
 
 /// Where an ending is that of a record: a verdict's certificate is accepted with what it claims,

@@ -4,7 +4,7 @@ ghost use Rattle.play.specs.Points.{IsBest};
 ghost use Rattle.engine.specs.Turns.{Holds, IsTurn, IsWaiting};
 
 use crate::outcome::{Knowledge, outcome_of};
-use desk::{Desk, Draw};
+use desk_part::{Draw, RecordedPart};
 use lpcc_case::Case;
 use play::{Options, Ticket};
 use std::alloc::{AllocError, Global};
@@ -14,7 +14,7 @@ fn settle_piece(
     alloc: Global,
     case: &Case,
     options: &Options,
-    desk: &mut Desk,
+    desk: &mut RecordedPart,
     known: &mut Knowledge,
     ticket: Ticket,
 ) -> Result<(), AllocError>
@@ -37,7 +37,7 @@ pub fn turn(
     alloc: Global,
     case: &Case,
     options: &Options,
-    desk: &mut Desk,
+    desk: &mut RecordedPart,
     known: &mut Knowledge,
 ) -> Result<bool, AllocError>
     requires one { options.now.workers ≡ 1 }

@@ -18,7 +18,7 @@ use Rattle.cuts.specs.declared.reason.SpentAt.{SpentAt}
 use Rattle.play.specs.declared.ending.Ending.{Ending}
 use Rattle.play.specs.declared.ending.Ending.TheVariants as ending
 use Rattle.play.specs.declared.event.Options.{Options}
-use Rattle.desk.specs.Desks.{IsEndingOfRecord}
+use Rattle.desk_part.specs.DeskParts.{IsEndingOfRecord}
 use Rattle.engine.specs.Solved.{IsShown, IsSolved, PiecesLast, PivotsLast, VerdictsAreShown, alone}
 use Rattle.command.specs.Inputs.{IsReadAlone, IsTrueOfBytes, SpellsAlone}
 use Rattle.command.specs.Runs.{IsRun}

@@ -14,7 +14,7 @@ use Rattle.play.specs.declared.ending.Ending.{Ending}
 use Rattle.play.specs.declared.ending.Ending.TheVariants as ending
 use Rattle.play.specs.declared.event.Event.{Event}
 use Rattle.play.specs.declared.event.Options.{Options}
-use Rattle.desk.specs.Desks.{IsEndingOf, IsEndingOfRecord}
+use Rattle.desk_part.specs.DeskParts.{IsEndingOf, IsEndingOfRecord}
 use Rattle.engine.specs.Solved.{PiecesLast, PivotsLast, VerdictsAreShown, alone}
 use Rattle.report.specs.Endings.{IsTextOf, status_of, verdict_text}
 use Rattle.command.specs.Inputs.{IsTrueOfBytes, SpellsAlone}

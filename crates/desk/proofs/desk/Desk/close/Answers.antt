@@ -1,9 +1,0 @@
-use Rattle.desk.specs.Desks.{standing}
-use Rattle.desk.proofs.DrawLaws.{closed_on, over_on}
-use Rattle.desk.proofs.desk.Desk.close.Goals as goal
-
-pub close-requires-clause-over : goal.close-requires-clause-over
-close-requires-clause-over c = over_on (standing c.self.inside.case c.self.inside.options c.self.inside.part) c.args.self c.self.view_is c.requires.over
-
-pub returns-clause-ending : goal.returns-clause-ending
-returns-clause-ending c = closed_on (standing c.self.inside.case c.self.inside.options c.self.inside.part) c.args.self c.close.result c.self.view_is c.self.invariant c.close.ensures.ending

@@ -1,5 +1,0 @@
-use Rattle.desk.proofs.OverLaws.{over_exactly}
-use Rattle.desk.proofs.laws.a_part_is_over_where_it_has_an_ending.Goals as goal
-
-pub returns : goal.returns
-returns c = over_exactly

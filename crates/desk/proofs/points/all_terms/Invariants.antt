@@ -1,6 +1,0 @@
-use Rattle.std.proofs.Common.{◌≡◌, take}
-use Rattle.play.specs.Certificates.{terms_from}
-use Rattle.desk.proofs.points.all_terms.Given as goal
-
-abbrev pub invariant-loop-at : goal.invariant-loop-at
-invariant-loop-at l = l.made ≡ terms_from 0 (take l.at l.numbers)

@@ -1,7 +1,0 @@
-use Rattle.std.proofs.Common.{map}
-use Rattle.cuts.specs.Cuts.{no_good_of}
-use Rattle.desk.specs.Stuck.{LowestUpto}
-use Rattle.desk.proofs.stuck.lowest.Given as goal
-
-abbrev pub invariant-loop-at : goal.invariant-loop-at
-invariant-loop-at l = LowestUpto (map no_good_of l.absorbed) l.aside l.at l.best

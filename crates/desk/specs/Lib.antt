@@ -1,4 +1,0 @@
-pub mod Desks
-pub mod Searches
-pub mod Lines
-pub mod Stuck

@@ -1,0 +1,253 @@
+-- The lines of a certificate.
+use Rattle.std.proofs.Common.{inl, inr, ℕ, zero, suc, ◌+◌, ◌-◌, ◌^◌, ◌<◌, ◌≤◌, ◌≡◌, refl, sym, ap, ◌∙◌, subst, arith, Bool, true, false, List, [], ◌∷◌, ◌++◌, length, get_or, map, take}
+use Rattle.std.specs.Prelude.{All, Any, Contains, Result, Ok, Err, IfOk, OnOk, slice_get, ℤ, if◌then◌else◌, nat_eq, unsigned_abs}
+use Rattle.std.proofs.lemmas.List.{get_or_default, length-map, take_more, append-nil}
+use Rattle.std.proofs.lemmas.List.Elements.{All-get_or, All-push, All-weaker, Contains-get_or}
+use Rattle.std.proofs.Math.ListN.{get_or-map}
+use Rattle.nogoods.specs.declared.choice.Choice.{Choice}
+use Rattle.nogoods.specs.declared.choice.Side.{Side}
+use Rattle.nogoods.specs.declared.choice.Side.TheVariants.{A}
+use Rattle.lpcc_case.specs.Instance.{Instance}
+use Rattle.lpcc_case.specs.Pieces.{NamesPairs}
+use Rattle.cuts.specs.declared.cut.Cut.{Cut}
+use Rattle.cuts.specs.declared.cut.Cut.TheVariants as cut_of
+use Rattle.cuts.specs.Cuts as cuts
+use Rattle.cuts.specs.Cuts.{Passes}
+use Rattle.lpcc_case.specs.Cases.{IsCase}
+use Rattle.derivation.specs.declared.step.Step.{Step}
+use Rattle.derivation.specs.declared.step.Step.TheVariants.{Start, Derived}
+use Rattle.derivation.specs.Logs.{IsLog, no_good_of, no_goods}
+use Rattle.trimming.specs.Trimmed.{AreReached, IsTrimmed, hints_of, kept_steps, place_of, step_at, with_hints}
+use Rattle.trimming.proofs.KeepLaws.{kept_inside}
+use Rattle.trimming.proofs.RenumberLaws.{step_hints_below}
+use Rattle.cert_text.specs.declared.cert.CertLine.{CertLine}
+use Rattle.cert_text.specs.Certs.{IsLine}
+use Rattle.play.specs.Certificates.{AreTrimmedLines, cut_at, line_at, line_of, terms_from, with_term}
+use Rattle.play.specs.Points.{choices_from, choices_of}
+use Rattle.play.specs.Truth.{starts_of}
+use Rattle.play.proofs.EndingLaws.{reached_same}
+use Rattle.play.proofs.ListLaws.{map_both}
+use Rattle.play.proofs.StartLaws.{starts_derived, starts_start}
+use Rattle.play.proofs.TrimLaws.{start_at}
+use Rattle.desk_part.specs.Lines.{AreCounted, AreReady, line_by}
+
+-- ---- choices and terms, one more
+
+choices_push : (k : ℕ) (sides : List Side) (s : Side) → choices_from k (sides ++ s ∷ []) ≡ choices_from k sides ++ (record { pair = k + length sides; side = s }) ∷ []
+choices_push k [] s =
+    let same : k ≡ k + 0 = omega arith in
+    ap (λ i. (record { pair = i; side = s }) ∷ []) same
+choices_push k (t ∷ sides) s =
+    let same : k + 1 + length sides ≡ k + length (t ∷ sides) = omega arith in
+    ap (λ l. (record { pair = k; side = t }) ∷ l) (choices_push (k + 1) sides s ∙ ap (λ i. choices_from (k + 1) sides ++ (record { pair = i; side = s }) ∷ []) same)
+
+pub choices_next : (sides : List Side) (at : ℕ) (made new : List Choice) → at < length sides → made ≡ choices_of (take at sides) → new ≡ made ++ (record { pair = at; side = get_or sides at A }) ∷ [] → new ≡ choices_of (take (at + 1) sides)
+choices_next sides at made new inside is added =
+    let size : length (take at sides) ≡ at = Rattle.std.proofs.lemmas.List.length-take-le at sides (omega (arith, inside)) in
+    let same : 0 + length (take at sides) ≡ at = omega (arith, size) in
+    added ∙ ap (λ l. l ++ (record { pair = at; side = get_or sides at A }) ∷ []) is
+    ∙ ap (λ i. choices_of (take at sides) ++ (record { pair = i; side = get_or sides at A }) ∷ []) (sym same)
+    ∙ sym (choices_push 0 (take at sides) (get_or sides at A))
+    ∙ ap choices_of (sym (take_more sides at A inside))
+
+terms_both : (b : Bool) (i : ℕ) (z : ℤ) (terms more : List (ℕ × ℤ)) → (if b then terms else (i, z) ∷ terms) ++ more ≡ (if b then terms ++ more else (i, z) ∷ (terms ++ more))
+terms_both true i z terms more = refl
+terms_both false i z terms more = refl
+
+terms_push : (k : ℕ) (numbers : List ℤ) (z : ℤ) → terms_from k (numbers ++ z ∷ []) ≡ terms_from k numbers ++ with_term (k + length numbers) z []
+terms_push k [] z =
+    let same : k ≡ k + 0 = omega arith in
+    ap (λ i. with_term i z []) same
+terms_push k (y ∷ numbers) z =
+    let same : k + 1 + length numbers ≡ k + length (y ∷ numbers) = omega arith in
+    ap (λ l. with_term k y l) (terms_push (k + 1) numbers z ∙ ap (λ i. terms_from (k + 1) numbers ++ with_term i z []) same)
+    ∙ sym (terms_both (nat_eq (unsigned_abs y) 0) k y (terms_from (k + 1) numbers) (with_term (k + length (y ∷ numbers)) z []))
+
+pub terms_next : (numbers : List ℤ) (at : ℕ) (made new : List (ℕ × ℤ)) → at < length numbers → made ≡ terms_from 0 (take at numbers) → new ≡ made ++ with_term at (get_or numbers at (Rattle.std.specs.Prelude.pos 0)) [] → new ≡ terms_from 0 (take (at + 1) numbers)
+terms_next numbers at made new inside is added =
+    let none : ℤ = Rattle.std.specs.Prelude.pos 0 in
+    let size : length (take at numbers) ≡ at = Rattle.std.proofs.lemmas.List.length-take-le at numbers (omega (arith, inside)) in
+    let same : 0 + length (take at numbers) ≡ at = omega (arith, size) in
+    added ∙ ap (λ l. l ++ with_term at (get_or numbers at none) []) is
+    ∙ ap (λ i. terms_from 0 (take at numbers) ++ with_term i (get_or numbers at none) []) (sym same)
+    ∙ sym (terms_push 0 (take at numbers) (get_or numbers at none))
+    ∙ ap (λ l. terms_from 0 l) (sym (take_more numbers at none inside))
+
+term_kept : (b : Bool) (i : ℕ) (z : ℤ) (none : List (ℕ × ℤ)) → b ≡ false → (if b then none else (i, z) ∷ none) ≡ (i, z) ∷ none
+term_kept b i z none e = ap (λ t. if t then none else (i, z) ∷ none) e
+
+term_none : (b : Bool) (i : ℕ) (z : ℤ) (none : List (ℕ × ℤ)) → b ≡ true → (if b then none else (i, z) ∷ none) ≡ none
+term_none b i z none e = ap (λ t. if t then none else (i, z) ∷ none) e
+
+-- a number that is not zero is added
+pub terms_added : (numbers : List ℤ) (at : ℕ) (z : ℤ) (made new : List (ℕ × ℤ)) → at < length numbers → z ≡ get_or numbers at (Rattle.std.specs.Prelude.pos 0) → (unsigned_abs z ≡ 0 → ⊥) → made ≡ terms_from 0 (take at numbers) → new ≡ made ++ (at, z) ∷ [] → new ≡ terms_from 0 (take (at + 1) numbers)
+terms_added numbers at z made new inside read some is added =
+    let kept : nat_eq (unsigned_abs z) 0 ≡ false = not_equal (nat_eq (unsigned_abs z) 0) (unsigned_abs z) refl some in
+    terms_next numbers at made new inside is (added ∙ ap (λ l. made ++ l) (sym (term_kept (nat_eq (unsigned_abs z) 0) at z [] kept)) ∙ ap (λ y. made ++ with_term at y []) read)
+  where
+    not_equal : (b : Bool) (n : ℕ) → nat_eq n 0 ≡ b → (n ≡ 0 → ⊥) → b ≡ false
+    not_equal true n e f = absurd (f (Rattle.std.proofs.lemmas.Bool.eqb-true n 0 e))
+    not_equal false n e f = refl
+
+-- zero is not
+pub terms_left : (numbers : List ℤ) (at : ℕ) (z : ℤ) (made : List (ℕ × ℤ)) → at < length numbers → z ≡ get_or numbers at (Rattle.std.specs.Prelude.pos 0) → unsigned_abs z ≡ 0 → made ≡ terms_from 0 (take at numbers) → made ≡ terms_from 0 (take (at + 1) numbers)
+terms_left numbers at z made inside read none is =
+    let gone : nat_eq (unsigned_abs z) 0 ≡ true = Rattle.std.proofs.lemmas.Bool.eq-eqb (unsigned_abs z) 0 none in
+    terms_next numbers at made made inside is (sym (append-nil made) ∙ ap (λ l. made ++ l) (sym (term_none (nat_eq (unsigned_abs z) 0) at z [] gone)) ∙ ap (λ y. made ++ with_term at y []) read)
+
+-- ---- counting starts
+
+pub starts_few : (log : List Step) → length (starts_of log) ≤ length log
+starts_few [] = omega arith
+starts_few (Start ng ∷ log) = omega (arith, starts_few log)
+starts_few (Derived ng hints ∷ log) = omega (arith, starts_few log)
+
+starts_push : (log : List Step) (s : Step) → length (starts_of (log ++ s ∷ [])) ≡ length (starts_of log) + length (starts_of (s ∷ []))
+starts_push log (Start ng) = ap length (starts_start log ng) ∙ Rattle.std.proofs.lemmas.List.length-append (starts_of log) (ng ∷ [])
+starts_push log (Derived ng hints) =
+    let none : length (starts_of log) ≡ length (starts_of log) + 0 = omega arith in
+    ap length (starts_derived log ng hints) ∙ none
+
+pub counts_begin : (log : List Step) (made : List ℕ) → made ≡ 0 ∷ [] → AreCounted log (0 + 1) made
+counts_begin log made is =
+    let P : List ℕ → Type 0 = λ l. AreCounted log (0 + 1) l in
+    subst P (sym is) (record { size = refl; counts = λ k below. at_zero k below })
+  where
+    at_zero : (k : ℕ) → k < 0 + 1 → get_or (0 ∷ []) k 0 ≡ length (starts_of (take k log))
+    at_zero zero below = refl
+    at_zero (suc k) below = absurd (omega (arith, below))
+
+-- the count of a step is that before it, with the step
+pub count_is : (log : List Step) (at : ℕ) (made : List ℕ) → at < length log → AreCounted log (at + 1) made → get_or made at 0 < length log
+count_is log at made inside h =
+    let few = starts_few (take at log) in
+    let size : length (take at log) ≡ at = Rattle.std.proofs.lemmas.List.length-take-le at log (omega (arith, inside)) in
+    omega (arith, h.counts at (omega arith), few, size, inside)
+
+pub count_read : (log : List Step) (at v : ℕ) (made : List ℕ) → AreCounted log (at + 1) made → v ≡ get_or made at v → v ≡ get_or made at 0
+count_read log at v made h read = read ∙ get_or_default made at v 0 (omega (arith, h.size))
+
+pub counts_next : (log : List Step) (at : ℕ) (x : Step) (count : ℕ) (made new : List ℕ) → at < length log → x ≡ get_or log at x → count ≡ get_or made at 0 + length (starts_of (x ∷ [])) → AreCounted log (at + 1) made → new ≡ made ++ count ∷ [] → AreCounted log (at + 1 + 1) new
+counts_next log at x count made new inside read is h added =
+    let P : List ℕ → Type 0 = λ l. AreCounted log (at + 1 + 1) l in
+    let total : count ≡ length (starts_of (take (at + 1) log)) =
+    is ∙ ap (λ n. n + length (starts_of (x ∷ []))) (h.counts at (omega arith)) ∙ sym (starts_push (take at log) x)
+    ∙ ap (λ l. length (starts_of l)) (ap (λ y. take at log ++ y ∷ []) read ∙ sym (take_more log at x inside)) in
+    subst P (sym added) (record {
+      size = Rattle.std.proofs.lemmas.List.length-append made (count ∷ []) ∙ ap (λ n. n + 1) h.size;
+      counts = λ k below. each k below total;
+    })
+  where
+    each : (k : ℕ) → k < at + 1 + 1 → count ≡ length (starts_of (take (at + 1) log)) → get_or (made ++ count ∷ []) k 0 ≡ length (starts_of (take k log))
+    each k below total = elim (Rattle.std.proofs.lemmas.Bool.cases_lt k (at + 1)) [
+      | inl before ↦ Rattle.std.proofs.Math.ListN.get_or-append made (count ∷ []) 0 k (omega (arith, before, h.size)) ∙ h.counts k before
+      | inr past ↦
+          let last : k ≡ at + 1 = omega (arith, past, below) in
+          let P : ℕ → Type 0 = λ i. get_or (made ++ count ∷ []) i 0 ≡ length (starts_of (take i log)) in
+          subst P (sym last) (Rattle.std.proofs.lemmas.List.get_or_push made count 0 (at + 1) h.size ∙ total)
+    ]
+
+-- ---- the line of a place
+
+line_same : (c : Cut) (places : List ℕ) (s : Step) → line_by c (with_hints (place_of places) s) ≡ line_of c places s
+line_same c places (Start ng) = refl
+line_same c places (Derived ng hints) = refl
+
+start_of_hinted : (f : ℕ → ℕ) (s : Step) (ng : List Choice) → with_hints f s ≡ Start ng → s ≡ Start ng
+start_of_hinted f (Start n) ng e = e
+start_of_hinted f (Derived n hints) ng e = absurd (cc)
+
+no_good_hinted : (f : ℕ → ℕ) (s : Step) → no_good_of (with_hints f s) ≡ no_good_of s
+no_good_hinted f (Start n) = refl
+no_good_hinted f (Derived n hints) = refl
+
+place_inside : (a : Instance) (absorbed : List Cut) (log : List Step) (places : List ℕ) (trimmed : List Step) (numbers : List ℕ) (at : ℕ) → AreReady a absorbed log places trimmed numbers → at < length places → get_or places at 0 < length log
+place_inside a absorbed log places trimmed numbers at r within = kept_inside log places (get_or places at 0) r.reached r.is_log (Contains-get_or places at 0 within)
+
+pub number_inside : (a : Instance) (absorbed : List Cut) (log : List Step) (places : List ℕ) (trimmed : List Step) (numbers : List ℕ) (at : ℕ) → AreReady a absorbed log places trimmed numbers → at < length places → get_or places at 0 < length numbers
+number_inside a absorbed log places trimmed numbers at r within = omega (arith, place_inside a absorbed log places trimmed numbers at r within, r.counted.size)
+
+pub trimmed_size : (a : Instance) (absorbed : List Cut) (log : List Step) (places : List ℕ) (trimmed : List Step) (numbers : List ℕ) → AreReady a absorbed log places trimmed numbers → length trimmed ≡ length places
+trimmed_size a absorbed log places trimmed numbers r = ap length r.trimmed_is ∙ length-map places (λ k. with_hints (place_of places) (step_at log k))
+
+-- the step of the trimmed log at a place, as the code reads it
+step_is : (a : Instance) (absorbed : List Cut) (log : List Step) (places : List ℕ) (trimmed : List Step) (numbers : List ℕ) (at : ℕ) (steps : List Step) (x : Step) → AreReady a absorbed log places trimmed numbers → at < length places → steps ≡ trimmed → x ≡ get_or steps at x → x ≡ with_hints (place_of places) (step_at log (get_or places at 0))
+step_is a absorbed log places trimmed numbers at steps x r within same read =
+    let f : ℕ → Step = λ k. with_hints (place_of places) (step_at log k) in
+    let size : length (map f places) ≡ length places = length-map places f in
+    read ∙ ap (λ l. get_or l at x) (same ∙ r.trimmed_is) ∙ get_or_default (map f places) at x (f 0) (omega (arith, size, within)) ∙ get_or-map f places at 0
+
+pub step_within : (a : Instance) (absorbed : List Cut) (log : List Step) (places : List ℕ) (trimmed : List Step) (numbers : List ℕ) (at : ℕ) (steps : List Step) (x : Step) (number : ℕ) → AreReady a absorbed log places trimmed numbers → at < length places → steps ≡ trimmed → x ≡ get_or steps at x → number ≡ get_or numbers (get_or places at 0) 0 → (ng : List Choice) → x ≡ Start ng → number < length absorbed
+step_within a absorbed log places trimmed numbers at steps x number r within same read is ng start =
+    let p = get_or places at 0 in
+    let inside = place_inside a absorbed log places trimmed numbers at r within in
+    let origin : step_at log p ≡ Start ng = start_of_hinted (place_of places) (step_at log p) ng (sym (step_is a absorbed log places trimmed numbers at steps x r within same read) ∙ start) in
+    let found = start_at log p ng inside origin in
+    let size : length (starts_of log) ≡ length absorbed = ap length r.starts ∙ length-map absorbed cuts.no_good_of in
+    omega (arith, is, r.counted.counts p (omega (arith, inside)), found.0, size)
+
+pub step_named : (a : Instance) (absorbed : List Cut) (log : List Step) (places : List ℕ) (trimmed : List Step) (numbers : List ℕ) (at : ℕ) (steps : List Step) (x : Step) → AreReady a absorbed log places trimmed numbers → at < length places → steps ≡ trimmed → x ≡ get_or steps at x → NamesPairs a (no_good_of x)
+step_named a absorbed log places trimmed numbers at steps x r within same read =
+    let p = get_or places at 0 in
+    let inside = place_inside a absorbed log places trimmed numbers at r within in
+    let here_it : NamesPairs a (get_or (no_goods log) p []) = All-get_or (NamesPairs a) (no_goods log) p [] (omega (arith, inside, length-map log no_good_of)) r.named in
+    let is : get_or (no_goods log) p [] ≡ no_good_of x = get_or-map no_good_of log p (Start []) ∙ sym (no_good_hinted (place_of places) (step_at log p)) ∙ ap no_good_of (sym (step_is a absorbed log places trimmed numbers at steps x r within same read)) in
+    subst (NamesPairs a) is here_it
+
+pub step_low : (a : Instance) (absorbed : List Cut) (log : List Step) (places : List ℕ) (trimmed : List Step) (numbers : List ℕ) (at : ℕ) (steps : List Step) (x : Step) → AreReady a absorbed log places trimmed numbers → at < length places → at < 2 ^ 64 → steps ≡ trimmed → x ≡ get_or steps at x → All (λ h. h < 2 ^ 64 - 1) (hints_of x)
+step_low a absorbed log places trimmed numbers at steps x r within fits same read =
+    let inside : at < length trimmed = omega (arith, trimmed_size a absorbed log places trimmed numbers r, within) in
+    let is : step_at trimmed at ≡ x = get_or_default trimmed at (Start []) x inside ∙ ap (λ l. get_or l at x) (sym same) ∙ sym read in
+    let below = step_hints_below trimmed at r.trimmed_log inside in
+    let P : Step → Type 0 = λ s. All (λ h. h < 2 ^ 64 - 1) (hints_of s) in
+    subst P is (All-weaker (λ h. h < at) (λ h. h < 2 ^ 64 - 1) (λ h less. omega (arith, less, fits)) (hints_of (step_at trimmed at)) below)
+
+pub line_result : {E : Type 0} (r : Result CertLine E) (a : Instance) (absorbed : List Cut) (log : List Step) (places : List ℕ) (trimmed : List Step) (numbers : List ℕ) (at : ℕ) (steps : List Step) (x : Step) (number : ℕ) → AreReady a absorbed log places trimmed numbers → at < length places → steps ≡ trimmed → x ≡ get_or steps at x → number ≡ get_or numbers (get_or places at 0) 0 → IfOk r (λ l. l ≡ line_by (get_or absorbed number (cut_of.Ray [] [])) x) → IfOk r (λ l. l ≡ line_at absorbed log places (get_or places at 0))
+line_result (Ok l) a absorbed log places trimmed numbers at steps x number r within same read is made =
+    let p = get_or places at 0 in
+    let inside = place_inside a absorbed log places trimmed numbers at r within in
+    let count : number ≡ length (starts_of (take p log)) = is ∙ r.counted.counts p (omega (arith, inside)) in
+    made ∙ ap (λ n. line_by (get_or absorbed n (cut_of.Ray [] [])) x) count
+    ∙ ap (λ s. line_by (cut_at absorbed log p) s) (step_is a absorbed log places trimmed numbers at steps x r within same read)
+    ∙ line_same (cut_at absorbed log p) places (step_at log p)
+line_result (Err x1) a absorbed log places trimmed numbers at steps x number r within same read is made = made
+
+pub lines_next : (f : ℕ → CertLine) (places : List ℕ) (at : ℕ) (l : CertLine) (made new : List CertLine) → at < length places → l ≡ f (get_or places at 0) → made ≡ map f (take at places) → new ≡ made ++ l ∷ [] → new ≡ map f (take (at + 1) places)
+lines_next f places at l made new within is so_far added =
+    added ∙ ap (λ m. m ++ l ∷ []) so_far ∙ ap (λ y. map f (take at places) ++ y ∷ []) is
+    ∙ sym (map_both f (take at places) (get_or places at 0 ∷ [])) ∙ ap (λ m. map f m) (sym (take_more places at 0 within))
+
+pub forms_next : (l : CertLine) (made new : List CertLine) → IsLine l → All IsLine made → new ≡ made ++ l ∷ [] → All IsLine new
+forms_next l made new here_it so_far added = subst (All IsLine) (sym added) (All-push IsLine made l so_far here_it)
+
+-- ---- all lines
+
+pub trimmed_by : (log made : List Step) (places : List ℕ) → AreReached log places → IsTrimmed log made → made ≡ kept_steps log places places
+trimmed_by log made places reached t =
+    let same = reached_same log t.places places t.are reached in
+    t.made_of ∙ ap (λ l. kept_steps log l l) same
+
+pub lines_made : {E : Type 0} (r : Result (List CertLine) E) (absorbed : List Cut) (log : List Step) (places : List ℕ) → AreReached log places → IfOk r (λ made. made ≡ map (line_at absorbed log places) places) → IfOk r (AreTrimmedLines absorbed log)
+lines_made (Ok made) absorbed log places reached is = record { places = places; kept = reached; made = is }
+lines_made (Err x) absorbed log places reached is = is
+
+-- all that the lines are made of, as the code has it
+pub ready_is : (a : Instance) (absorbed : List Cut) (log : List Step) (places slice : List ℕ) (trimmed steps : List Step) (numbers items : List ℕ) → IsCase a → All (Passes a) absorbed → starts_of log ≡ map cuts.no_good_of absorbed → All (NamesPairs a) (no_goods log) → AreReached log places → slice ≡ places → IsTrimmed log trimmed → steps ≡ log → IsLog log → IsLog trimmed → numbers ≡ items → AreCounted steps (length steps + 1) items → AreReady a absorbed log slice trimmed numbers
+ready_is a absorbed log places slice trimmed steps numbers items is_case passing starts named reached same t same_steps is_log trimmed_log same_numbers counted =
+    let P : List ℕ → Type 0 = λ l. AreReached log l in
+    let at_slice : AreReached log slice = subst P (sym same) reached in
+    let Q : List Step → List ℕ → Type 0 = λ l n. AreCounted l (length l + 1) n in
+    record {
+      is_case = is_case;
+      passing = passing;
+      starts = starts;
+      named = named;
+      is_log = is_log;
+      reached = at_slice;
+      trimmed_is = trimmed_by log trimmed slice at_slice t;
+      trimmed_log = trimmed_log;
+      counted = subst (λ n. Q log n) (sym same_numbers) (subst (λ l. Q l items) same_steps counted);
+    }
+
+pub reached_by : (log : List Step) (places slice : List ℕ) → AreReached log places → slice ≡ places → AreReached log slice
+reached_by log places slice reached same = subst (λ l. AreReached log l) (sym same) reached

@@ -1,0 +1,4 @@
+pub mod DeskParts
+pub mod Searches
+pub mod Lines
+pub mod Stuck
