@@ -1,0 +1,222 @@
+//! The dictionary of a case, at its start.
+
+use crate::columns::{ColumnBounds, Columns};
+use crate::dictionary::Simplex;
+use lp_base::product;
+use lpcc_case::{Case, Constraint, Kind};
+use simplex_rows::{Bound, Row, Scale, Variable, common_multiple, narrow, quotient};
+use std::alloc::{AllocError, Global};
+
+fn zeros(alloc: Global, columns: usize) -> Result<Vec<i64>, AllocError> {
+    let mut entries = Vec::with_capacity(alloc, columns)?;
+    for _ in 0..columns {
+        entries.push(0_i64)?;
+    }
+    Ok(entries)
+}
+
+fn scale_of(bounds: &[ColumnBounds], j: usize) -> Scale {
+    if j < bounds.len() {
+        bounds[j].scale
+    } else {
+        Scale { scale: 1, shift: 0 }
+    }
+}
+
+fn denominator(bounds: &[ColumnBounds], terms: &[(u32, i64)]) -> Option<i64> {
+    let mut d = 1;
+    for term in terms {
+        let scale = scale_of(bounds, term.0 as usize).scale;
+        d = common_multiple(d, i128::from(scale.unsigned_abs()))?;
+    }
+    Some(d)
+}
+
+/// Fills a row, and gives its constant and its denominator. None where a number does not fit.
+fn fill(
+    entries: &mut [i64],
+    bounds: &[ColumnBounds],
+    terms: &[(u32, i64)],
+    constant: i64,
+) -> Option<(i64, i64)> {
+    let den = denominator(bounds, terms)?;
+    let mut sum = product(constant, den);
+    for term in terms {
+        let j = term.0 as usize;
+        let scale = scale_of(bounds, j);
+        let entry = narrow(product(term.1, quotient(den, scale.scale)))?;
+        if j < entries.len() {
+            entries[j] = entry;
+        }
+        sum = sum.checked_add(product(entry, scale.shift))?;
+    }
+    Some((narrow(sum)?, den))
+}
+
+/// The row of terms and a constant. None where a number does not fit.
+fn row_of(
+    alloc: Global,
+    bounds: &[ColumnBounds],
+    terms: &[(u32, i64)],
+    constant: i64,
+    variable: usize,
+) -> Result<Option<Row>, AllocError> {
+    let mut entries = zeros(alloc, bounds.len())?;
+    let Some((constant, den)) = fill(entries.as_mut_slice(), bounds, terms, constant) else {
+        return Ok(None);
+    };
+    let mut row = Row {
+        entries,
+        constant,
+        den,
+        magnitude: 0,
+        reduced_magnitude: 0,
+        variable,
+    };
+    row.reduce();
+    Ok(Some(row))
+}
+
+fn variable_of(bounds: ColumnBounds, place: usize) -> Variable {
+    Variable {
+        lower: bounds.lower,
+        upper: bounds.upper,
+        range: bounds.range,
+        place,
+        ..Variable::free()
+    }
+}
+
+fn slack_of(constraint: &Constraint, k: usize) -> Variable {
+    Variable {
+        lower: u32::try_from(k).ok(),
+        held_at_lower: if constraint.kind == Kind::Eq { 1 } else { 0 },
+        ..Variable::free()
+    }
+}
+
+fn count(counts: &mut [i64], entries: &[i64]) {
+    for (k, x) in entries.iter().enumerate() {
+        if k < counts.len() && *x != 0 {
+            counts[k] = counts[k].wrapping_add(1);
+        }
+    }
+}
+
+fn cost_terms(alloc: Global, cost: &[i64]) -> Result<Vec<(u32, i64)>, AllocError> {
+    let mut terms = Vec::new(alloc);
+    for (j, c) in cost.iter().enumerate() {
+        if *c != 0
+            && let Ok(number) = u32::try_from(j)
+        {
+            terms.push((number, *c))?;
+        }
+    }
+    Ok(terms)
+}
+
+impl Simplex {
+    /// A dictionary of columns without rows.
+    fn of_columns(alloc: Global, bounds: &[ColumnBounds]) -> Result<Simplex, AllocError> {
+        let columns = bounds.len();
+        let mut variables = Vec::with_capacity(alloc, columns)?;
+        let mut nonbasic = Vec::with_capacity(alloc, columns)?;
+        let mut scales = Vec::with_capacity(alloc, columns)?;
+        let mut wide = Vec::with_capacity(alloc, columns)?;
+        for (j, own) in bounds.iter().enumerate() {
+            variables.push(variable_of(*own, j))?;
+            nonbasic.push(j)?;
+            scales.push(own.scale)?;
+            wide.push(0_i128)?;
+        }
+        Ok(Simplex {
+            rows: Vec::new(alloc),
+            variables,
+            nonbasic,
+            counts: zeros(alloc, columns)?,
+            terms: Vec::with_capacity(alloc, columns)?,
+            wide,
+            scales,
+            bounds: Vec::new(alloc),
+            cost: 0,
+            limit: None,
+            held: Vec::new(alloc),
+            overflowed: false,
+            pivots: 0,
+        })
+    }
+
+    /// Adds a basic variable with its row.
+    fn add_row(&mut self, made: Option<Row>, variable: Variable) -> Result<(), AllocError> {
+        let Some(row) = made else {
+            self.overflowed = true;
+            return Ok(());
+        };
+        count(self.counts.as_mut_slice(), row.entries.as_slice());
+        let place = self.rows.len();
+        self.rows.push(row)?;
+        self.variables.push(Variable {
+            basic: true,
+            place,
+            ..variable
+        })?;
+        Ok(())
+    }
+
+    fn add_constraint(
+        &mut self,
+        alloc: Global,
+        bounds: &[ColumnBounds],
+        k: usize,
+        constraint: &Constraint,
+    ) -> Result<Bound, AllocError> {
+        let variable = self.variables.len();
+        let row = row_of(
+            alloc,
+            bounds,
+            constraint.terms.as_slice(),
+            constraint.rhs.wrapping_neg(),
+            variable,
+        )?;
+        self.add_row(row, slack_of(constraint, k))?;
+        Ok(Bound {
+            variable,
+            upper: false,
+        })
+    }
+
+    fn add_constraints(
+        &mut self,
+        alloc: Global,
+        case: &Case,
+        columns: &Columns,
+    ) -> Result<(), AllocError> {
+        let bound_of = columns.bound_of.as_slice();
+        for (k, constraint) in case.constraints().iter().enumerate() {
+            let known = if k < bound_of.len() {
+                bound_of[k]
+            } else {
+                None
+            };
+            let bound = match known {
+                Some(bound) => bound,
+                None => self.add_constraint(alloc, columns.bounds.as_slice(), k, constraint)?,
+            };
+            self.bounds.push(bound)?;
+        }
+        Ok(())
+    }
+
+    /// The dictionary of a case at its start, with no limit, nothing held but the equations.
+    pub fn of_case(alloc: Global, case: &Case) -> Result<Simplex, AllocError> {
+        let columns = Columns::of_case(alloc, case)?;
+        let bounds = columns.bounds.as_slice();
+        let mut made = Simplex::of_columns(alloc, bounds)?;
+        made.add_constraints(alloc, case, &columns)?;
+        made.cost = made.variables.len();
+        let terms = cost_terms(alloc, case.cost())?;
+        let row = row_of(alloc, bounds, terms.as_slice(), 0, made.cost)?;
+        made.add_row(row, Variable::free())?;
+        Ok(made)
+    }
+}

@@ -1,0 +1,139 @@
+//! Pivots, and variables that are counted from their other bound.
+
+use crate::dictionary::Simplex;
+use simplex_rows::{PivotRow, Row, Variable};
+use std::alloc::AllocError;
+
+/// The terms of the row that leaves, but for that of the column.
+fn collect_terms(
+    terms: &mut Vec<(usize, i64)>,
+    entries: &[i64],
+    col: usize,
+) -> Result<(), AllocError> {
+    terms.clear();
+    for (k, v) in entries.iter().enumerate() {
+        if *v != 0 && k != col {
+            terms.push((k, *v))?;
+        }
+    }
+    Ok(())
+}
+
+fn eliminate_others(
+    rows: &mut [Row],
+    leaving: usize,
+    pivot: PivotRow,
+    terms: &[(usize, i64)],
+    counts: &mut [i64],
+    wide: &mut [i128],
+) -> bool {
+    for (i, row) in rows.iter_mut().enumerate() {
+        if i != leaving && !row.eliminate(pivot, terms, counts, wide) {
+            return false;
+        }
+    }
+    true
+}
+
+fn set_place(variables: &mut [Variable], number: usize, basic: bool, place: usize) {
+    if number < variables.len() {
+        let mut variable = variables[number];
+        variable.basic = basic;
+        variable.place = place;
+        variables[number] = variable;
+    }
+}
+
+fn flip(variables: &mut [Variable], number: usize) {
+    if number < variables.len() {
+        let mut variable = variables[number];
+        variable.reflected = !variable.reflected;
+        variables[number] = variable;
+    }
+}
+
+fn reflect_columns(rows: &mut [Row], col: usize, range: i64) -> bool {
+    for row in rows.iter_mut() {
+        if row.reflect_column(col, range).is_none() {
+            return false;
+        }
+    }
+    true
+}
+
+impl Simplex {
+    fn overflow(&mut self) -> bool {
+        self.overflowed = true;
+        false
+    }
+
+    /// Exchanges the variable of the row with that of the column. False where a number does not fit.
+    pub(crate) fn pivot(&mut self, row: usize, col: usize) -> Result<bool, AllocError> {
+        if row >= self.rows.len() || col >= self.nonbasic.len() {
+            return Ok(self.overflow());
+        }
+        let leaving = &self.rows[row];
+        let pivot = PivotRow {
+            col,
+            entry: leaving.entry(col),
+            constant: leaving.constant,
+            den: leaving.den,
+            magnitude: leaving.magnitude,
+        };
+        let left = leaving.variable;
+        if pivot.entry == 0 {
+            return Ok(self.overflow());
+        }
+        collect_terms(&mut self.terms, leaving.entries.as_slice(), col)?;
+        let fits = eliminate_others(
+            self.rows.as_mut_slice(),
+            row,
+            pivot,
+            self.terms.as_slice(),
+            self.counts.as_mut_slice(),
+            self.wide.as_mut_slice(),
+        );
+        if !fits {
+            return Ok(self.overflow());
+        }
+        let entered = self.nonbasic[col];
+        self.rows[row].enter(pivot, entered);
+        self.nonbasic[col] = left;
+        set_place(self.variables.as_mut_slice(), entered, true, row);
+        set_place(self.variables.as_mut_slice(), left, false, col);
+        self.pivots = self.pivots.wrapping_add(1);
+        Ok(true)
+    }
+
+    /// Counts the variable of a row from its other bound. False where a number does not fit.
+    pub(crate) fn reflect_row(&mut self, row: usize) -> bool {
+        if row >= self.rows.len() {
+            return false;
+        }
+        let number = self.rows[row].variable;
+        let Some(range) = self.variable(number).range else {
+            return false;
+        };
+        if self.rows[row].reflect(range).is_none() {
+            return self.overflow();
+        }
+        flip(self.variables.as_mut_slice(), number);
+        true
+    }
+
+    /// Counts the variable of a column from its other bound. False where a number does not fit.
+    pub(crate) fn reflect_column(&mut self, col: usize) -> bool {
+        if col >= self.nonbasic.len() {
+            return false;
+        }
+        let number = self.nonbasic[col];
+        let Some(range) = self.variable(number).range else {
+            return false;
+        };
+        if !reflect_columns(self.rows.as_mut_slice(), col, range) {
+            return self.overflow();
+        }
+        flip(self.variables.as_mut_slice(), number);
+        true
+    }
+}
