@@ -15,7 +15,7 @@ use Rattle.decks.specs.Decks.{IsDeck, NamesQuantity}
 use Rattle.decks.specs.declared.deck.Deck.{Deck}
 use Rattle.deck_case.specs.DeckCases.{HasCase, case_of_deck}
 use Rattle.deck_case.specs.DeckPoints.{MeetsDeck}
-use Rattle.deck_case.specs.DeckVerdicts.{IsLeastValue, IsTrueOfDeck, relaxed, relaxed_deck, value_of, whole}
+use Rattle.deck_case.specs.DeckVerdicts.{IsLeastValue, IsTrueOfDeck, relaxed, relaxed_deck, value_at, whole}
 use Rattle.deck_case.specs.Rationals.{IsAtMost, IsBelow}
 use Rattle.deck_case.proofs.CaseFacts.{is_case}
 use Rattle.deck_case.proofs.DeckMeaning.{objective_is, scale_positive}
@@ -90,31 +90,31 @@ abbrev NoLower : (d : Deck) → Point (length d.columns) → Type 0
 NoLower d p = (q : Point (length d.columns)) → IsFeasible (case_of_deck d) q → IsLower (case_of_deck d) q p → ⊥
 
 -- where p has the value, no lower cost is no lesser value
-order_iff : (d : Deck) (p q : Point (length d.columns)) (value : Fraction) → IsDeck d → pos 1 ≤ℤ value.den → lifted d p *ℤ value.den ≡ value.num *ℤ scaled d p → ((cost_at (case_of_deck d) p *ℤ pos q.d) ≤ℤ (cost_at (case_of_deck d) q *ℤ pos p.d)) ↔ IsAtMost value (value_of d q)
+order_iff : (d : Deck) (p q : Point (length d.columns)) (value : Fraction) → IsDeck d → pos 1 ≤ℤ value.den → lifted d p *ℤ value.den ≡ value.num *ℤ scaled d p → ((cost_at (case_of_deck d) p *ℤ pos q.d) ≤ℤ (cost_at (case_of_deck d) q *ℤ pos p.d)) ↔ IsAtMost value (value_at d q)
 order_iff d p q value h some e =
     let a = case_of_deck d in
     let costs = costs_iff (cost_at a p) (cost_at a q) a.offset (pos p.d) (pos q.d) a.scale (scale_positive d h) in
     let least = least_iff value.num value.den (lifted d p) (scaled d p) (lifted d q) (scaled d q) some (objective_is d p h).common e in
     let is = objective_is d q h in
-    let over = at_most_over (lifted d q) (scaled d q) value (value_of d q) is.positive is.common is.over in
+    let over = at_most_over (lifted d q) (scaled d q) value (value_at d q) is.positive is.common is.over in
     (λ k. over.1 (least.0 (costs.0 k)), λ k. costs.1 (least.1 (over.0 k)))
 
-least_of : (d : Deck) (p : Point (length d.columns)) (value : Fraction) → IsDeck d → pos 1 ≤ℤ value.den → lifted d p *ℤ value.den ≡ value.num *ℤ scaled d p → NoLower d p → (q : Point (length d.columns)) → MeetsDeck d q → IsAtMost value (value_of d q)
+least_of : (d : Deck) (p : Point (length d.columns)) (value : Fraction) → IsDeck d → pos 1 ≤ℤ value.den → lifted d p *ℤ value.den ≡ value.num *ℤ scaled d p → NoLower d p → (q : Point (length d.columns)) → MeetsDeck d q → IsAtMost value (value_at d q)
 least_of d p value h some e none q met =
     let a = case_of_deck d in
     let le = by_lt_z (cost_at a q *ℤ pos p.d) (cost_at a p *ℤ pos q.d) (λ lt. absurd (none q ((feasible_law d q h).1 met) lt)) (λ other. other) in
     (order_iff d p q value h some e).0 le
 
-no_lower : (d : Deck) (p : Point (length d.columns)) (value : Fraction) → IsDeck d → pos 1 ≤ℤ value.den → lifted d p *ℤ value.den ≡ value.num *ℤ scaled d p → ((q : Point (length d.columns)) → MeetsDeck d q → IsAtMost value (value_of d q)) → NoLower d p
+no_lower : (d : Deck) (p : Point (length d.columns)) (value : Fraction) → IsDeck d → pos 1 ≤ℤ value.den → lifted d p *ℤ value.den ≡ value.num *ℤ scaled d p → ((q : Point (length d.columns)) → MeetsDeck d q → IsAtMost value (value_at d q)) → NoLower d p
 no_lower d p value h some e least q feasible lower =
     let a = case_of_deck d in
     let le = (order_iff d p q value h some e).1 (least q ((feasible_law d q h).0 feasible)) in
     not_both (cost_at a q *ℤ pos p.d) (cost_at a p *ℤ pos q.d) lower le
 
-same_value : (d : Deck) (p : Point (length d.columns)) (value : Fraction) → IsDeck d → (lifted d p *ℤ value.den ≡ value.num *ℤ scaled d p) ↔ SameValue (value_of d p) value
+same_value : (d : Deck) (p : Point (length d.columns)) (value : Fraction) → IsDeck d → (lifted d p *ℤ value.den ≡ value.num *ℤ scaled d p) ↔ SameValue (value_at d p) value
 same_value d p value h =
     let is = objective_is d p h in
-    value_iff (lifted d p) (scaled d p) value.num value.den (value_of d p) is.positive is.common is.over
+    value_iff (lifted d p) (scaled d p) value.num value.den (value_at d p) is.positive is.common is.over
 
 positive_nat : (m : ℕ) (z : ℤ) → pos m ≡ z → 0 < m → pos 1 ≤ℤ z
 positive_nat m z e h = subst (λ y. pos 1 ≤ℤ y) e (omega (arith, ints, h))
@@ -195,7 +195,7 @@ unbounded_to d h k bound =
     let found = k ((bound *ℤ a.scale) +ℤ neg_ℤ a.offset) in
     let p = found.0 in
     let is = objective_is d p h in
-    (p, (feasible_law d p h).0 found.1, (below_over (lifted d p) (scaled d p) (whole bound) (value_of d p) is.positive is.common is.over).1 (below_scaled (cost_at a p) a.offset (pos p.d) a.scale bound found.2))
+    (p, (feasible_law d p h).0 found.1, (below_over (lifted d p) (scaled d p) (whole bound) (value_at d p) is.positive is.common is.over).1 (below_scaled (cost_at a p) a.offset (pos p.d) a.scale bound found.2))
 
 unbounded_from : (d : Deck) → IsDeck d → IsTrueOfDeck d Unbounded → IsUnbounded (case_of_deck d)
 unbounded_from d h k bound =
@@ -204,7 +204,7 @@ unbounded_from d h k bound =
     let p = found.0 in
     let is = objective_is d p h in
     let some : pos 1 ≤ℤ pos p.d = omega (arith, ints, p.positive) in
-    (p, (feasible_law d p h).1 found.1, below_unscaled (cost_at a p) a.offset (pos p.d) a.scale bound (scale_positive d h) some ((below_over (lifted d p) (scaled d p) (whole (far bound a.offset)) (value_of d p) is.positive is.common is.over).0 found.2))
+    (p, (feasible_law d p h).1 found.1, below_unscaled (cost_at a p) a.offset (pos p.d) a.scale bound (scale_positive d h) some ((below_over (lifted d p) (scaled d p) (whole (far bound a.offset)) (value_at d p) is.positive is.common is.over).0 found.2))
 
 -- ---- the laws
 

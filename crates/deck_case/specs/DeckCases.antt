@@ -1,6 +1,7 @@
 -- The case of a deck.
 use Rattle.std.specs.Prelude.{◌≡◌, ◌≤◌, ◌<◌, ◌+◌, ◌&&◌, ℕ, Bool, true, false, pos, [], is_some, length, map, take, if◌then◌else◌}
 use Rattle.std.specs.List.{enumerate_from}
+use Rattle.lp_base.specs.declared.limits.TheConstants.{MOST_CONSTRAINTS}
 use Rattle.lpcc_case.specs.Cases.{instance_of}
 use Rattle.lpcc_case.specs.Instance.{Instance}
 use Rattle.decks.specs.Decks.{entries_of}
@@ -55,10 +56,10 @@ case_of_deck d =
 
 -- nothing is too wide, and there are more constraints than a case may have
 abbrev pub HasTooMany : Deck → Type 0
-HasTooMany d = (wide_lines d ≡ []) × (2000 < length (constraints_of d))
+HasTooMany d = (wide_lines d ≡ []) × (MOST_CONSTRAINTS < length (constraints_of d))
 
 -- the deck has this case
 pub record HasCase (d : Deck) (a : Instance) : Type 0 where
   pub narrow : wide_lines d ≡ []
-  pub few : length (constraints_of d) ≤ 2000
+  pub few : length (constraints_of d) ≤ MOST_CONSTRAINTS
   pub made : a ≡ case_of_deck d

@@ -1,4 +1,4 @@
--- What a deck says of a point x / d, in its own words and in fractions.
+-- Under `yes`: what a deck says of a point x / d, in its own words and in fractions.
 use Rattle.std.specs.Prelude.{◌≡◌, ◌≢◌, ℕ, pos, All, Option, None, Some, IfSome, ◌⊎◌, map, slice_get, slice_index_or, length}
 use Rattle.lp_nums.specs.Fractions.{Fraction, SameValue}
 use Rattle.lpcc_case.specs.Points.{Point}

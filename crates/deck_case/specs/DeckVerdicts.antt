@@ -1,4 +1,4 @@
--- The verdicts on a deck, and when each is true, in the deck's own words: rows with their sides, bounds, pairs, and the
+-- Under `yes`: the verdicts on a deck, and when each is true, in the deck's own words: rows with their sides, bounds, pairs, and the
 -- objective with its constant, all in fractions. They know nothing of multipliers and of lists of constraints.
 use Rattle.std.specs.Prelude.{ℤ, pos, ◌≤ℤ◌, [], length}
 use Rattle.lp_nums.specs.Fractions.{Fraction, SameValue}
@@ -11,8 +11,8 @@ use Rattle.deck_case.specs.DeckPoints.{MeetsDeck, objective_value, row_at}
 use Rattle.deck_case.specs.Rationals.{IsAtMost, IsBelow}
 
 -- the deck's objective at a point
-abbrev pub value_of : (d : Deck) → Point (length d.columns) → Fraction
-value_of d p = objective_value d (row_at d d.objective) p
+abbrev pub value_at : (d : Deck) → Point (length d.columns) → Fraction
+value_at d p = objective_value d (row_at d d.objective) p
 
 abbrev pub whole : ℤ → Fraction
 whole z = record { num = z; den = pos 1 }
@@ -22,14 +22,14 @@ pub record IsLeastValue (d : Deck) (value : Fraction) : Type 0 where
   pub positive : pos 1 ≤ℤ value.den
   pub point : Point (length d.columns)
   pub met : MeetsDeck d point
-  pub same : SameValue (value_of d point) value
-  pub least : (q : Point (length d.columns)) → MeetsDeck d q → IsAtMost value (value_of d q)
+  pub same : SameValue (value_at d point) value
+  pub least : (q : Point (length d.columns)) → MeetsDeck d q → IsAtMost value (value_at d q)
 
 abbrev pub IsTrueOfDeck : Deck → Verdict → Type 0
 IsTrueOfDeck d (Optimal value) = IsLeastValue d value
 IsTrueOfDeck d Infeasible = (p : Point (length d.columns)) → MeetsDeck d p → ⊥
 -- below each whole number lies the value of a point that meets the deck
-IsTrueOfDeck d Unbounded = (bound : ℤ) → (p : Point (length d.columns)) × MeetsDeck d p × IsBelow (value_of d p) (whole bound)
+IsTrueOfDeck d Unbounded = (bound : ℤ) → (p : Point (length d.columns)) × MeetsDeck d p × IsBelow (value_at d p) (whole bound)
 
 -- ---- the relaxation: the pairs are left out
 

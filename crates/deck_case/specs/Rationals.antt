@@ -1,4 +1,4 @@
--- Arithmetic of fractions whose denominators are positive, in lowest terms or not.
+-- Under `yes`: arithmetic of fractions whose denominators are positive, in lowest terms or not.
 use Rattle.std.specs.Prelude.{pos, ◌+ℤ◌, ◌*ℤ◌, ◌≤ℤ◌, ◌<ℤ◌, neg_ℤ, List, [], ◌∷◌, unsigned_abs}
 use Rattle.lp_nums.specs.Fractions.{Fraction}
 

@@ -1,4 +1,4 @@
--- What the rows of a deck ask for: from a lower to an upper end.
+-- Under `yes`: what the rows of a deck ask for: from a lower to an upper end.
 use Rattle.std.specs.Prelude.{pos, Bool, true, false, Option, None, Some, int_lt, if◌then◌else◌}
 use Rattle.lp_nums.specs.Fractions.{Fraction}
 use Rattle.decks.specs.declared.deck.Letter.{Letter}

@@ -2,6 +2,7 @@
 use Rattle.std.specs.Prelude.{◌≡◌, ◌≤◌, ◌<◌, ◌≤ℤ◌, ℕ, ℤ, ◌+ℤ◌, ◌-ℤ◌, ◌^◌, ◌++◌, pos, Bool, true, false, List, Option, None, Some, MatchOption, slice_get, unsigned_abs, if◌then◌else◌}
 use Rattle.std.specs.Int.{◌∣◌}
 use Rattle.std.specs.Option.{option_map, option_to_list}
+use Rattle.lp_base.specs.declared.limits.TheConstants.{LARGEST_OF_CASE}
 use Rattle.lp_nums.specs.Fractions.{Fraction}
 use Rattle.deck_case.specs.declared.fault.CaseFault.{CaseFault}
 use Rattle.deck_case.specs.declared.fault.CaseFault.TheVariants.{RowWide, TooMany, NoMemory}
@@ -22,7 +23,7 @@ IsLcm a b l = (a ∣ l) × (b ∣ l) × ((k : ℕ) → a ∣ k → b ∣ k → l
 
 -- the multiplier of these fractions, none where it is too wide
 abbrev pub IsNarrowMultiplier : List Fraction → Option ℕ → Type 0
-IsNarrowMultiplier fs found = MatchOption found (2 ^ 52 < multiplier fs) (λ m. (m ≡ multiplier fs) × (m ≤ 2 ^ 52))
+IsNarrowMultiplier fs found = MatchOption found (LARGEST_OF_CASE < multiplier fs) (λ m. (m ≡ multiplier fs) × (m ≤ LARGEST_OF_CASE))
 
 -- the multiplier clears the number, whose denominator is one that a deck can have
 pub record IsClearedBy (m : ℕ) (f : Fraction) : Type 0 where
@@ -31,7 +32,7 @@ pub record IsClearedBy (m : ℕ) (f : Fraction) : Type 0 where
   pub small : unsigned_abs f.den ≤ 10 ^ 18
 
 abbrev pub IsNarrowTerm : ℕ × ℤ → Type 0
-IsNarrowTerm t = unsigned_abs t.1 ≤ 2 ^ 52
+IsNarrowTerm t = unsigned_abs t.1 ≤ LARGEST_OF_CASE
 
 -- ---- the ends of a row
 

@@ -2,6 +2,7 @@
 use Rattle.std.specs.Prelude.{ℕ, ℤ, ◌^◌, ◌++◌, pos, Bool, nat_lt, List, [], ◌∷◌, unsigned_abs, if◌then◌else◌}
 use Rattle.std.specs.List.{enumerate_from, flat_map, list_any}
 use Rattle.std.specs.Option.{option_map_or}
+use Rattle.lp_base.specs.declared.limits.TheConstants.{LARGEST_OF_CASE}
 use Rattle.lpcc_case.specs.declared.constraint.Constraint.{Constraint}
 use Rattle.decks.specs.Decks.{entries_of}
 use Rattle.decks.specs.declared.deck.Bound.{Bound}
@@ -15,7 +16,7 @@ use Rattle.deck_case.specs.CaseParts.{coefficients, constraints_of_row, cost_ter
 
 -- past 2^52 in size
 abbrev pub is_wide : ℤ → Bool
-is_wide z = nat_lt (2 ^ 52) (unsigned_abs z)
+is_wide z = nat_lt LARGEST_OF_CASE (unsigned_abs z)
 
 abbrev pub has_wide : List ℤ → Bool
 has_wide numbers = list_any is_wide numbers

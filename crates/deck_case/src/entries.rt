@@ -1,6 +1,7 @@
 //! The entries of each row, and their terms.
 ghost use Rattle.std.specs.Prelude.{◌≡◌, ◌<◌, ◌≤◌, ◌^◌, [], All, IfErr, IfOk, false, map, replicate};
 ghost use Rattle.std.specs.List.{range_with_len};
+ghost use Rattle.lp_base.specs.declared.limits.TheConstants.{LARGEST_OF_CASE};
 ghost use Rattle.decks.specs.Decks.{entries_of};
 ghost use Rattle.deck_case.specs.CaseParts.{coefficients, terms_of};
 ghost use Rattle.deck_case.specs.Steps.{IsClearedBy, IsFirstOf};
@@ -50,7 +51,7 @@ pub fn terms(
     line: u32,
 ) -> Result<Terms, CaseFault>
     requires positive { 0 < multiplier }
-    requires narrow { multiplier ≤ 2 ^ 52 }
+    requires narrow { multiplier ≤ LARGEST_OF_CASE }
     requires clears { All (λ e. IsClearedBy multiplier e.value) entries.now }
     ensures ok { IfOk result (λ made. made ≡ terms_of multiplier entries.now) }
     ensures narrow { IfOk result (λ made. has_wide (coefficients made) ≡ false) }

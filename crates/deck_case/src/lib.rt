@@ -29,12 +29,9 @@ pub use laws::{
     multiplier_is_the_least_that_clears, relaxed_verdicts_are_those_of_the_relaxed_deck,
     value_is_the_objective_with_its_constant, verdicts_are_those_of_the_deck,
 };
-use lp_base::Sequence;
+use lp_base::{MOST_CONSTRAINTS, Sequence};
 use lpcc_case::Case;
 use std::alloc::Global;
-
-/// The most constraints that a case may have.
-const MOST_CONSTRAINTS: usize = 2000;
 
 /// The case of a deck: each row times the least number that makes it whole, in file order, then
 /// the bounds of each column, and each pair as the pair of the constraints that are tight where

@@ -9,10 +9,8 @@ ghost use Rattle.deck_case.specs.Multipliers.{ArePositive, multiplier, times};
 ghost use Rattle.deck_case.specs.Steps.{IsClearedBy, IsLcm, IsNarrowMultiplier, far_end, narrow};
 
 use decks::Entry;
+use lp_base::LARGEST_OF_CASE;
 use lp_nums::{Frac, gcd};
-
-/// The most that a whole number of a case, or a multiplier, may have in size.
-const WIDEST: u128 = 1 << 52;
 
 /// The denominator.
 fn den_of(number: Frac) -> u64
@@ -34,13 +32,13 @@ fn common_divisor(a: u64, b: u64) -> u64
 /// The least common multiple, where it is at most 2^52.
 fn common(known: u64, den: u64) -> Option<u64>
     requires positive { 0 < known }
-    requires narrow { known ≤ 2 ^ 52 }
+    requires narrow { known ≤ LARGEST_OF_CASE }
     requires den { den ≤ 10 ^ 18 }
-    ensures { MatchOption result ((l : ℕ) → IsLcm known den l → 2 ^ 52 < l)
-        (λ l. IsLcm known den l × (l ≤ 2 ^ 52)) }
+    ensures { MatchOption result ((l : ℕ) → IsLcm known den l → LARGEST_OF_CASE < l)
+        (λ l. IsLcm known den l × (l ≤ LARGEST_OF_CASE)) }
 {
     let least = u128::from(known / common_divisor(known, den)) * u128::from(den);
-    if least > WIDEST {
+    if least > LARGEST_OF_CASE {
         None
     } else {
         Some(least as u64)
@@ -50,7 +48,7 @@ fn common(known: u64, den: u64) -> Option<u64>
 /// The multiplier of some fractions and one more, where `known` is that of the fractions.
 fn with_number(known: u64, number: Frac) -> Option<u64>
     requires positive { 0 < known }
-    requires narrow { known ≤ 2 ^ 52 }
+    requires narrow { known ≤ LARGEST_OF_CASE }
     requires den { unsigned_abs number.den ≤ 10 ^ 18 }
     ensures { (fs : List Fraction) → ArePositive fs → known ≡ multiplier fs
         → IsNarrowMultiplier (fs ++ number ∷ []) result }
@@ -61,7 +59,7 @@ fn with_number(known: u64, number: Frac) -> Option<u64>
 /// The same with a range, if there is one.
 fn with_range(known: u64, range: Option<Frac>) -> Option<u64>
     requires positive { 0 < known }
-    requires narrow { known ≤ 2 ^ 52 }
+    requires narrow { known ≤ LARGEST_OF_CASE }
     requires den { IfSome range (λ r. unsigned_abs r.den ≤ 10 ^ 18) }
     ensures { (fs : List Fraction) → ArePositive fs → known ≡ multiplier fs
         → IsNarrowMultiplier (fs ++ option_to_list range) result }
@@ -90,7 +88,7 @@ pub fn multiplier(rhs: Frac, range: Option<Frac>, entries: &[Entry]) -> Option<u
 pub fn narrow(whole: i128) -> Option<i64>
     ensures { result ≡ narrow whole }
 {
-    if whole.unsigned_abs() > WIDEST {
+    if whole.unsigned_abs() > LARGEST_OF_CASE {
         None
     } else {
         Some(whole as i64)
@@ -99,7 +97,7 @@ pub fn narrow(whole: i128) -> Option<i64>
 
 /// A number times a multiplier that clears it.
 fn times(multiplier: u64, number: Frac) -> i128
-    requires narrow { multiplier ≤ 2 ^ 52 }
+    requires narrow { multiplier ≤ LARGEST_OF_CASE }
     requires clears { IsClearedBy multiplier number }
     requires room { unsigned_abs number.num ≤ 2 ^ 53 }
     ensures value { result ≡ times multiplier number }
@@ -111,11 +109,11 @@ fn times(multiplier: u64, number: Frac) -> i128
 /// A number times a multiplier that clears it, where that is at most 2^52 in size.
 pub fn whole(multiplier: u64, number: Frac) -> Option<i64>
     requires positive { 0 < multiplier }
-    requires narrow { multiplier ≤ 2 ^ 52 }
+    requires narrow { multiplier ≤ LARGEST_OF_CASE }
     requires clears { IsClearedBy multiplier number }
     ensures { result ≡ narrow (times multiplier number) }
 {
-    if number.num().unsigned_abs() > WIDEST {
+    if number.num().unsigned_abs() > LARGEST_OF_CASE {
         return None;
     }
     narrow(times(multiplier, number))
@@ -123,7 +121,7 @@ pub fn whole(multiplier: u64, number: Frac) -> Option<i64>
 
 /// A number less, or else plus, the size of another.
 fn moved(near: i64, span: i128, down: bool) -> i128
-    requires near { unsigned_abs near ≤ 2 ^ 52 }
+    requires near { unsigned_abs near ≤ LARGEST_OF_CASE }
     requires span { unsigned_abs span ≤ 2 ^ 105 }
     ensures { result ≡ far_end near down span }
 {
@@ -137,13 +135,13 @@ fn moved(near: i64, span: i128, down: bool) -> i128
 /// The end of a row that a range gives: `near` less, or else plus, the size of the range times the
 /// multiplier, where that is at most 2^52 in size.
 pub fn far_end(near: i64, multiplier: u64, range: Frac, down: bool) -> Option<i64>
-    requires near { unsigned_abs near ≤ 2 ^ 52 }
+    requires near { unsigned_abs near ≤ LARGEST_OF_CASE }
     requires positive { 0 < multiplier }
-    requires narrow { multiplier ≤ 2 ^ 52 }
+    requires narrow { multiplier ≤ LARGEST_OF_CASE }
     requires clears { IsClearedBy multiplier range }
     ensures { result ≡ narrow (far_end near down (times multiplier range)) }
 {
-    if range.num().unsigned_abs() > 2 * WIDEST {
+    if range.num().unsigned_abs() > 2 * LARGEST_OF_CASE {
         return None;
     }
     narrow(moved(near, times(multiplier, range), down))

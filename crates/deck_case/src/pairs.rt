@@ -1,6 +1,7 @@
 //! Pairs as numbers of constraints.
 ghost use Rattle.std.specs.Prelude.{◌≡◌, ◌≤◌, ◌<◌, ◌^◌, All, IfOk, length, map};
 ghost use Rattle.std.specs.List.{range_with_len};
+ghost use Rattle.lp_base.specs.declared.limits.TheConstants.{MOST_CONSTRAINTS};
 ghost use Rattle.decks.specs.Decks.{IsDeck, NamesQuantity};
 ghost use Rattle.deck_case.specs.CaseParts.{constraints_of};
 ghost use Rattle.deck_case.specs.DeckCases.{before_column, before_row, pair_of, side_number, side_place};
@@ -25,7 +26,7 @@ fn side_number(deck: &Deck, rows: &[usize], columns: &[usize], quantity: Quantit
     requires rows { rows.now ≡ map (before_row deck.now) (range_with_len 0 (length deck.now.rows)) }
     requires columns { columns.now
         ≡ map (before_column deck.now) (range_with_len 0 (length deck.now.columns)) }
-    requires few { length (constraints_of deck.now) ≤ 2000 }
+    requires few { length (constraints_of deck.now) ≤ MOST_CONSTRAINTS }
     requires named { NamesQuantity deck.now quantity }
     ensures { result ≡ side_number deck.now quantity }
 {
@@ -50,7 +51,7 @@ pub fn numbers(
     requires rows { rows.now ≡ map (before_row deck.now) (range_with_len 0 (length deck.now.rows)) }
     requires columns { columns.now
         ≡ map (before_column deck.now) (range_with_len 0 (length deck.now.columns)) }
-    requires few { length (constraints_of deck.now) ≤ 2000 }
+    requires few { length (constraints_of deck.now) ≤ MOST_CONSTRAINTS }
     ensures { IfOk result (λ made. made ≡ map (pair_of deck.now) deck.now.pairs) }
 {
     let mut made = Sequence::new(alloc);

@@ -1,6 +1,7 @@
 //! Constraints of one end.
 ghost use Rattle.std.specs.Prelude.{◌≡◌, ◌<◌, ◌≤◌, ◌^◌, ◌++◌, All, IfOk, IfSome, OnOk, unsigned_abs};
 ghost use Rattle.std.specs.Option.{option_map, option_to_list};
+ghost use Rattle.lp_base.specs.declared.limits.TheConstants.{LARGEST_OF_CASE};
 ghost use Rattle.deck_case.specs.CaseParts.{at_least, at_most, equal_to, negated};
 ghost use Rattle.deck_case.specs.Steps.{IsNarrowTerm};
 
@@ -67,7 +68,7 @@ pub fn push_upper(
     made: &mut Vec<Constraint>,
 ) -> Result<(), AllocError>
     requires terms { All IsNarrowTerm terms.now }
-    requires end { IfSome end (λ b. unsigned_abs b ≤ 2 ^ 52) }
+    requires end { IfSome end (λ b. unsigned_abs b ≤ LARGEST_OF_CASE) }
     ensures { OnOk result (made.new.items
         ≡ made.old.items ++ option_to_list (option_map (at_most terms.now) end)) }
 {

@@ -1,6 +1,7 @@
 //! Rows as constraints.
 ghost use Rattle.std.specs.Prelude.{◌≡◌, ◌≢◌, ◌<◌, ◌≤◌, ◌^◌, ◌++◌, ◌∷◌, [], ℤ, All, IfErr, IfSome, OnOk, None, Some, true, false, if◌then◌else◌, unsigned_abs};
 ghost use Rattle.std.specs.Option.{option_map};
+ghost use Rattle.lp_base.specs.declared.limits.TheConstants.{LARGEST_OF_CASE};
 ghost use Rattle.decks.specs.Decks.{IsDeckNumber};
 ghost use Rattle.decks.specs.declared.deck.Letter.TheVariants.{N, E, L, G};
 ghost use Rattle.deck_case.specs.CaseParts.{between_ends, constraints_of_row, equal_to, is_equation, numbers_of};
@@ -38,9 +39,9 @@ fn reaches_down(letter: Letter, range: Frac) -> bool
 
 /// The ends of a row with a range, none where the one that the range gives is too wide.
 fn ends_with_range(letter: Letter, near: i64, multiplier: u64, range: Frac) -> Option<Ends>
-    requires near { unsigned_abs near ≤ 2 ^ 52 }
+    requires near { unsigned_abs near ≤ LARGEST_OF_CASE }
     requires positive { 0 < multiplier }
-    requires narrow { multiplier ≤ 2 ^ 52 }
+    requires narrow { multiplier ≤ LARGEST_OF_CASE }
     requires clears { IsClearedBy multiplier range }
     ensures { result ≡ (if reaches_down letter range
         then option_map (λ far. ends_of (Some far) (Some near)) (narrow (far_end near true (times multiplier range)))
@@ -88,7 +89,7 @@ fn ends_without_range(letter: Letter, near: i64) -> Ends
 fn ends_of_row(multiplier: u64, row: &Row) -> Option<Ends>
     requires letter { row.now.letter ≢ N }
     requires positive { 0 < multiplier }
-    requires narrow { multiplier ≤ 2 ^ 52 }
+    requires narrow { multiplier ≤ LARGEST_OF_CASE }
     requires clears { IsClearedBy multiplier row.now.rhs }
     requires range { IfSome row.now.range (IsClearedBy multiplier) }
     ensures { AreEnds multiplier (sides row.now.letter row.now.rhs row.now.range) result }
@@ -116,7 +117,7 @@ fn push_ends(
     made: &mut Vec<Constraint>,
 ) -> Result<(), AllocError>
     requires terms { All IsNarrowTerm terms }
-    requires end { IfSome ends.upper (λ b. unsigned_abs b ≤ 2 ^ 52) }
+    requires end { IfSome ends.upper (λ b. unsigned_abs b ≤ LARGEST_OF_CASE) }
     ensures equation { equation ≡ true → (b : ℤ) → ends.lower ≡ Some b
         → OnOk result (made.new.items ≡ made.old.items ++ equal_to terms b ∷ []) }
     ensures ends { equation ≡ false

@@ -15,13 +15,13 @@ use Rattle.decks.specs.declared.fault.DeckFault.{DeckFault}
 use Rattle.decks.specs.Decks.{IsDeck, IsDeckNumber, IsRow, IsColumn}
 use Rattle.decks.specs.Bounds.{settings_in, column_bounds}
 use Rattle.decks.specs.Sections.{slice}
-use Rattle.decks.specs.Spelling.{is_n, has_objective, rows_of, kept, column_names, entries_in, givens_in, deck_row, deck_entries, pair_of, deck_of}
+use Rattle.decks.specs.Spelling.{is_n, has_objective, rows_of, kept, column_names, entries_in, row_values_in, deck_row, deck_entries, pair_of, deck_of}
 use Rattle.decks.specs.Texts.{Spells}
 use Rattle.decks.proofs.KeptParts.{all_weaker, every_map, get_map, get_mapped}
 use Rattle.decks.proofs.KeptNames.{get_first}
 use Rattle.decks.proofs.KeptSlices.{LinesRight, lines_right, some_objective}
 use Rattle.decks.proofs.KeptRows.{rows_kept, names_objective, other_row, letter_n}
-use Rattle.decks.proofs.KeptGivens.{givens_kept, row_is}
+use Rattle.decks.proofs.KeptRowValues.{row_values_kept, row_is}
 use Rattle.decks.proofs.KeptBounds.{settings_kept, column_is}
 use Rattle.decks.proofs.KeptColumns.{columns_kept, IsEntry, entries_are, no_more_entries}
 use Rattle.decks.proofs.KeptPairs.{IsPair, few_pairs, pairs_are}
@@ -35,14 +35,14 @@ deck_is ls number right some =
     let ks = kept rs in
     let cs = column_names (slice Columns ls) in
     let es = entries_in (slice Columns ls) in
-    let rights = givens_in (slice Rhs ls) in
-    let ranges = givens_in (slice Ranges ls) in
+    let rights = row_values_in (slice Rhs ls) in
+    let ranges = row_values_in (slice Ranges ls) in
     let ss = settings_in (slice Bounds ls) in
     let rows = rows_kept (slice Rows ls) right.rows in
     let columns = columns_kept (slice Rows ls) (slice Columns ls) rows right.columns in
     let settings = settings_kept (slice Columns ls) (slice Bounds ls) right.bounds in
-    let given = givens_kept (slice Rows ls) (slice Rhs ls) right.rights in
-    let ranged = givens_kept (slice Rows ls) (slice Ranges ls) right.ranges in
+    let valued = row_values_kept (slice Rows ls) (slice Rhs ls) right.rights in
+    let ranged = row_values_kept (slice Rows ls) (slice Ranges ls) right.ranges in
     let objective = get_first names_objective ks (rows.numbered.objective some) in
     let entries = entries_are rs cs es rows columns.entries in
     let row_count = length-map ks (deck_row rights ranges) in
@@ -54,7 +54,7 @@ deck_is ls number right some =
       few_pairs = omega (arith, length-map (slice Pairs ls) (λ (l : Line). pair_of rs cs l.fields), few_pairs (slice Rows ls) (slice Columns ls) (slice Bounds ls) (slice Pairs ls) right.pairs);
       objective = (deck_row rights ranges objective.0, get_map (deck_row rights ranges) ks _ objective.0 objective.1, letter_n objective.0.letter objective.2);
       others = λ k r e n. let x = get_mapped (deck_row rights ranges) ks k r e in not_n x.0.letter r.letter (ap (λ (y : made.Row). y.letter) x.2) (other_row ks k x.0 rows.numbered.one x.1 n);
-      rows = All-from_recursion IsRow (map (deck_row rights ranges) ks) (every_map IsRow (deck_row rights ranges) (row_is rights ranges given ranged) ks);
+      rows = All-from_recursion IsRow (map (deck_row rights ranges) ks) (every_map IsRow (deck_row rights ranges) (row_is rights ranges valued ranged) ks);
       columns = All-from_recursion IsColumn (map (column_bounds ss) cs) (every_map IsColumn (column_bounds ss) (column_is ss settings) cs);
       entries_named = All-from_recursion _ (deck_entries rs cs es) (all_weaker (IsEntry (length ks) (length cs)) (λ (e : Entry). (e.column < length (map (column_bounds ss) cs)) × (e.row < length (map (deck_row rights ranges) ks)))
           (λ e h. (omega (arith, h.column, column_count), omega (arith, h.row, row_count))) (deck_entries rs cs es) entries);

@@ -14,13 +14,13 @@ use Rattle.decks.specs.declared.fault.DeckWhy.TheVariants.{UnknownName, EntryTwi
 use Rattle.decks.specs.Decks.{IsDeckNumber}
 use Rattle.decks.specs.Names.{has, place, add_name}
 use Rattle.decks.specs.Numbers.{value_of, text_fault}
-use Rattle.decks.specs.Spelling.{field, RowLine, kept, row_named, number_of_row, given, NamedEntry, in_column, entries_on, entries_in, rows_of, rows_in, column_names, entry_at, entry_of, deck_entries}
+use Rattle.decks.specs.Spelling.{field, RowLine, kept, row_named, number_of_row, row_value, NamedEntry, in_column, entries_on, entries_in, rows_of, rows_in, column_names, entry_at, entry_of, deck_entries}
 use Rattle.decks.specs.Faults.{◌or◌, fault_if, marker_fault, split_fault, entry_fault, full_fault, column_words_fault}
 use Rattle.decks.proofs.KeptParts.{first_none, second_none, if_none, all_append, all_flat}
 use Rattle.decks.proofs.KeptNames.{place_has, has_added, columns_push}
 use Rattle.decks.proofs.KeptNumbers.{number_kept}
 use Rattle.decks.proofs.KeptRows.{RowsKept, is_at}
-use Rattle.decks.proofs.KeptGivens.{entry_text}
+use Rattle.decks.proofs.KeptRowValues.{entry_text}
 use Rattle.decks.proofs.KeptEntries.{IsNamed, EntriesKept, column_added, last_added, entry_added, rows_push}
 use Rattle.decks.proofs.KeptSlices.{IsRightBy, columns_fault, by_lines}
 
@@ -58,16 +58,16 @@ pub record ListsKept (rows : List RowLine) (columns : List Name) (es : List Name
   pub few_columns : length columns ≤ 1000
   pub few_entries : length es ≤ 200000
 
-named_by : (columns standing : List Name) (c r v : Name) → IsEntryRight standing r v → IsNamed (add_name columns c) (in_column c (given r v))
+named_by : (columns standing : List Name) (c r v : Name) → IsEntryRight standing r v → IsNamed (add_name columns c) (in_column c (row_value r v))
 named_by columns standing c r v h = record { column = has_added columns c; value = h.value }
 
 one_entry : (rows : List RowLine) (columns : List Name) (es : List NamedEntry) (c r v : Name) → RowsKept rows → ListsKept rows columns es → length columns ≤ place columns c + 1 → IsEntryRight (rows_in c es) r v
-    → EntriesKept rows (add_name columns c) (es ++ in_column c (given r v) ∷ [])
+    → EntriesKept rows (add_name columns c) (es ++ in_column c (row_value r v) ∷ [])
 one_entry rows columns es c r v h k whole e =
-    entry_added rows (add_name columns c) es (in_column c (given r v)) h (column_added rows columns c es k.entries) (named_by columns (rows_in c es) c r v e) (last_added columns c es whole k.entries.named) e.fresh
+    entry_added rows (add_name columns c) es (in_column c (row_value r v)) h (column_added rows columns c es k.entries) (named_by columns (rows_in c es) c r v e) (last_added columns c es whole k.entries.named) e.fresh
 
 one_kept : (rows : List RowLine) (columns : List Name) (es : List NamedEntry) (c r v : Name) → RowsKept rows → ListsKept rows columns es → column_words_fault rows columns (rows_in c es) (length es) (c ∷ r ∷ v ∷ []) ≡ None
-    → ListsKept rows (add_name columns c) (es ++ in_column c (given r v) ∷ [])
+    → ListsKept rows (add_name columns c) (es ++ in_column c (row_value r v) ∷ [])
 one_kept rows columns es c r v h k e =
     let split = split_fault columns c in
     let one = entry_fault rows (has (rows_in c es) r) r v in
@@ -77,20 +77,20 @@ one_kept rows columns es c r v h k e =
     record {
       entries = one_entry rows columns es c r v h k (not_split columns c (first_none split (one or full) e)) (entry_right rows (rows_in c es) r v (first_none one full after));
       few_columns = room.0;
-      few_entries = omega (arith, room.1, length-append es (in_column c (given r v) ∷ []));
+      few_entries = omega (arith, room.1, length-append es (in_column c (row_value r v) ∷ []));
     }
 
 two_entries : (rows : List RowLine) (columns : List Name) (es : List NamedEntry) (c r v s w : Name) → RowsKept rows → ListsKept rows columns es → length columns ≤ place columns c + 1 → IsEntryRight (rows_in c es) r v
-    → IsEntryRight (rows_in c es ++ r ∷ []) s w → EntriesKept rows (add_name columns c) ((es ++ in_column c (given r v) ∷ []) ++ in_column c (given s w) ∷ [])
+    → IsEntryRight (rows_in c es ++ r ∷ []) s w → EntriesKept rows (add_name columns c) ((es ++ in_column c (row_value r v) ∷ []) ++ in_column c (row_value s w) ∷ [])
 two_entries rows columns es c r v s w h k whole e f =
-    let first = in_column c (given r v) in
+    let first = in_column c (row_value r v) in
     let new = add_name columns c in
     let last = all_append (λ x. place new x.column ≤ place new c) es (first ∷ []) (last_added columns c es whole k.entries.named) (omega arith, tt) in
-    entry_added rows new (es ++ first ∷ []) (in_column c (given s w)) h (one_entry rows columns es c r v h k whole e) (named_by columns (rows_in c es ++ r ∷ []) c s w f) last
+    entry_added rows new (es ++ first ∷ []) (in_column c (row_value s w)) h (one_entry rows columns es c r v h k whole e) (named_by columns (rows_in c es ++ r ∷ []) c s w f) last
     (ap (λ (x : List Name). has x s) (rows_push c es first refl) ∙ f.fresh)
 
 two_kept : (rows : List RowLine) (columns : List Name) (es : List NamedEntry) (c r v s w : Name) → RowsKept rows → ListsKept rows columns es → column_words_fault rows columns (rows_in c es) (length es) (c ∷ r ∷ v ∷ s ∷ w ∷ []) ≡ None
-    → ListsKept rows (add_name columns c) (es ++ in_column c (given r v) ∷ in_column c (given s w) ∷ [])
+    → ListsKept rows (add_name columns c) (es ++ in_column c (row_value r v) ∷ in_column c (row_value s w) ∷ [])
 two_kept rows columns es c r v s w h k e =
     let split = split_fault columns c in
     let one = entry_fault rows (has (rows_in c es) r) r v in
@@ -102,9 +102,9 @@ two_kept rows columns es c r v s w h k e =
     let entries = two_entries rows columns es c r v s w h k (not_split columns c (first_none split ((one or two) or full) e)) (entry_right rows (rows_in c es) r v (first_none one two both))
     (entry_right rows (rows_in c es ++ r ∷ []) s w (second_none one two both)) in
     record {
-      entries = subst (EntriesKept rows (add_name columns c)) (append_assoc es (in_column c (given r v) ∷ []) (in_column c (given s w) ∷ [])) entries;
+      entries = subst (EntriesKept rows (add_name columns c)) (append_assoc es (in_column c (row_value r v) ∷ []) (in_column c (row_value s w) ∷ [])) entries;
       few_columns = room.0;
-      few_entries = omega (arith, room.1, length-append es (in_column c (given r v) ∷ in_column c (given s w) ∷ []));
+      few_entries = omega (arith, room.1, length-append es (in_column c (row_value r v) ∷ in_column c (row_value s w) ∷ []));
     }
 
 words_kept : (rows : List RowLine) (columns : List Name) (es : List NamedEntry) (fs : List Name) → RowsKept rows → ListsKept rows columns es → column_words_fault rows columns (rows_in (field 0 fs) es) (length es) fs ≡ None

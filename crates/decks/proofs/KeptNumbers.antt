@@ -119,7 +119,7 @@ pub record IsNear (text : List ℕ) (f : Fraction) : Type 0 where
   pub num : unsigned_abs f.num < 10 ^ 36
   pub den : unsigned_abs f.den ≤ 10 ^ 18
 
-positive_den : (m q : ℤ) → pos 1 ≤ℤ (times_power_of_ten m q).den
+pub positive_den : (m q : ℤ) → pos 1 ≤ℤ (times_power_of_ten m q).den
 positive_den m (pos k) = omega (arith, ints)
 positive_den m (negsuc k) = omega (arith, ints, ten_some (suc k))
 

@@ -23,7 +23,7 @@ use Rattle.decks.specs.Decks.{IsDeckNumber, NamesQuantity, is_inequality, zero}
 use Rattle.decks.specs.Names.{has, place}
 use Rattle.decks.specs.Numbers.{is_zero}
 use Rattle.decks.specs.Bounds.{Setting, settings_in, column_bounds}
-use Rattle.decks.specs.Spelling.{field, is_n, RowLine, kept, rows_of, row_named, number_of_row, column_names, Given, deck_row, pair_names, is_col, pair_of, deck_pairs}
+use Rattle.decks.specs.Spelling.{field, is_n, RowLine, kept, rows_of, row_named, number_of_row, column_names, RowValue, deck_row, pair_names, is_col, pair_of, deck_pairs}
 use Rattle.decks.specs.Faults.{◌or◌, fault_if, is_free_from_zero, column_quantity_fault, row_quantity_fault, quantity_fault, pair_front_fault, many_pairs_fault, pair_fault}
 use Rattle.decks.proofs.KeptParts.{first_none, second_none, if_none, unless_none, get_map, all_map}
 use Rattle.decks.proofs.KeptNames.{get_place}
@@ -50,11 +50,11 @@ zero_end (Some f) h e = ap (λ (x : Fraction). Some x) (zero_is f h ((Decides-in
 -- ---- a quantity
 
 -- the deck has these rows and columns
-pub record IsMade (d : Deck) (rows : List RowLine) (columns : List Name) (ss : List Setting) (rights ranges : List Given) : Type 0 where
+pub record IsMade (d : Deck) (rows : List RowLine) (columns : List Name) (ss : List Setting) (rights ranges : List RowValue) : Type 0 where
   pub rows_are : d.rows ≡ map (deck_row rights ranges) (kept rows)
   pub columns_are : d.columns ≡ map (column_bounds ss) columns
 
-column_named : (d : Deck) (rows : List RowLine) (columns : List Name) (ss : List Setting) (rights ranges : List Given) (n : Name) → IsMade d rows columns ss rights ranges → SettingsKept ss → column_quantity_fault columns (column_bounds ss) n ≡ None → NamesQuantity d (Col (place columns n))
+column_named : (d : Deck) (rows : List RowLine) (columns : List Name) (ss : List Setting) (rights ranges : List RowValue) (n : Name) → IsMade d rows columns ss rights ranges → SettingsKept ss → column_quantity_fault columns (column_bounds ss) n ≡ None → NamesQuantity d (Col (place columns n))
 column_named d rows columns ss rights ranges n m h e =
     let unknown = fault_if (not (has columns n)) UnknownName in
     let lower = fault_if (not (is_free_from_zero (column_bounds ss n))) PairLower in
@@ -69,17 +69,17 @@ not_dropped E e f = absurd cc
 not_dropped L e f = absurd cc
 not_dropped G e f = absurd cc
 
-row_at : (d : Deck) (rows : List RowLine) (columns : List Name) (ss : List Setting) (rights ranges : List Given) (r : RowLine) (o : Option ℕ) → IsMade d rows columns ss rights ranges → is_inequality r.letter ≡ true → PlacedAs (kept rows) r o → NamesQuantity d (Row (unwrap_or o 0))
+row_at : (d : Deck) (rows : List RowLine) (columns : List Name) (ss : List Setting) (rights ranges : List RowValue) (r : RowLine) (o : Option ℕ) → IsMade d rows columns ss rights ranges → is_inequality r.letter ≡ true → PlacedAs (kept rows) r o → NamesQuantity d (Row (unwrap_or o 0))
 row_at d rows columns ss rights ranges r None m e p = absurd (not_dropped r.letter p e)
 row_at d rows columns ss rights ranges r (Some k) m e p =
     (deck_row rights ranges r, ap (λ (x : List made.Row). slice_get x k) m.rows_are ∙ get_map (deck_row rights ranges) (kept rows) k r p, e)
 
-named_row : (d : Deck) (rows : List RowLine) (columns : List Name) (ss : List Setting) (rights ranges : List Given) (n : Name) (o : Option RowLine) → IsMade d rows columns ss rights ranges → RowsKept rows → row_named rows n ≡ o → row_quantity_fault o ≡ None
+named_row : (d : Deck) (rows : List RowLine) (columns : List Name) (ss : List Setting) (rights ranges : List RowValue) (n : Name) (o : Option RowLine) → IsMade d rows columns ss rights ranges → RowsKept rows → row_named rows n ≡ o → row_quantity_fault o ≡ None
     → NamesQuantity d (Row (unwrap_or (number_of_row o) 0))
 named_row d rows columns ss rights ranges n None m h q e = absurd cc
 named_row d rows columns ss rights ranges n (Some r) m h q e = row_at d rows columns ss rights ranges r r.number m (unless_none (is_inequality r.letter) PairKind e) (row_placed rows n r h q).0
 
-quantity_named : (d : Deck) (rows : List RowLine) (columns : List Name) (ss : List Setting) (rights ranges : List Given) (b : Bool) (n : Name) → IsMade d rows columns ss rights ranges → RowsKept rows → SettingsKept ss
+quantity_named : (d : Deck) (rows : List RowLine) (columns : List Name) (ss : List Setting) (rights ranges : List RowValue) (b : Bool) (n : Name) → IsMade d rows columns ss rights ranges → RowsKept rows → SettingsKept ss
     → cond b (column_quantity_fault columns (column_bounds ss) n) (row_quantity_fault (row_named rows n)) ≡ None → NamesQuantity d (cond b (Col (place columns n)) (Row (unwrap_or (number_of_row (row_named rows n)) 0)))
 quantity_named d rows columns ss rights ranges true n m h k e = column_named d rows columns ss rights ranges n m k e
 quantity_named d rows columns ss rights ranges false n m h k e = named_row d rows columns ss rights ranges n (row_named rows n) m h refl e
@@ -126,7 +126,7 @@ few_pairs rows columns bounds ls h = by_lines (pairs_fault rows columns bounds) 
 abbrev pub IsPair : Deck → PairLine → Type 0
 IsPair d p = NamesQuantity d p.a × NamesQuantity d p.b
 
-pub pairs_are : (d : Deck) (rows columns bounds ls : List Line) (rights ranges : List Given) → IsMade d (rows_of rows) (column_names columns) (settings_in bounds) rights ranges → RowsKept (rows_of rows) → SettingsKept (settings_in bounds)
+pub pairs_are : (d : Deck) (rows columns bounds ls : List Line) (rights ranges : List RowValue) → IsMade d (rows_of rows) (column_names columns) (settings_in bounds) rights ranges → RowsKept (rows_of rows) → SettingsKept (settings_in bounds)
     → IsRightBy (pairs_fault rows columns bounds) [] ls → AllByRecursion (IsPair d) (deck_pairs (rows_of rows) (column_names columns) ls)
 pairs_are d rows columns bounds ls rights ranges m h k right =
     let rs = rows_of rows in

@@ -14,8 +14,8 @@ use Rattle.decks.specs.declared.fault.DeckWhy.{DeckWhy}
 use Rattle.decks.specs.declared.fault.DeckWhy.TheVariants.{NoObjective, SectionOrder}
 use Rattle.decks.specs.Bounds.{bound_set, settings_in, column_bounds}
 use Rattle.decks.specs.Sections.{Open, is_open, is_entry, behind, open_from, open_behind, data_line, slice_from, slice, is_begun, rank, open_rank, may_follow}
-use Rattle.decks.specs.Spelling.{field, rows_of, rows_in, has_objective, entries_in, column_names, given_set, givens_in, first_set, pair_names}
-use Rattle.decks.specs.Faults.{fault_of, kind_fault, data_fault, ended_fault, order_fault, found_at, named_at, row_fault, column_fault, givens_fault, bound_fault, pair_fault}
+use Rattle.decks.specs.Spelling.{field, rows_of, rows_in, has_objective, entries_in, column_names, row_values_set, row_values_in, first_set, pair_names}
+use Rattle.decks.specs.Faults.{fault_of, kind_fault, data_fault, ended_fault, order_fault, found_at, named_at, row_fault, column_fault, row_values_fault, bound_fault, pair_fault}
 use Rattle.decks.specs.Texts.{IsClean, ends_deck}
 use Rattle.decks.proofs.KeptParts.{first_none, second_none, if_none, unless_none, map_none}
 
@@ -116,7 +116,7 @@ abbrev pub columns_fault : List Line → FaultBehind
 columns_fault rows before fs = column_fault (rows_of rows) (column_names before) (rows_in (field 0 fs) (entries_in before)) (length (entries_in before)) fs
 
 abbrev pub rights_fault : List Line → FaultBehind
-rights_fault rows before fs = givens_fault (rows_of rows) (first_set given_set before) (givens_in before) fs
+rights_fault rows before fs = row_values_fault (rows_of rows) (first_set row_values_set before) (row_values_in before) fs
 
 abbrev pub bounds_fault : List Line → FaultBehind
 bounds_fault columns before fs = bound_fault (column_names columns) (first_set bound_set before) fs

@@ -5,7 +5,7 @@ pub mod KeptParts
 pub mod KeptSlices
 pub mod KeptNames
 pub mod KeptRows
-pub mod KeptGivens
+pub mod KeptRowValues
 pub mod KeptBounds
 pub mod KeptEntries
 pub mod KeptColumns

@@ -1,7 +1,8 @@
--- The function and the relations say the same.
-use Rattle.std.proofs.Common.{ℕ, ◌≡◌, ◌+◌, Bool, true, false, List, [], ◌∷◌, ◌++◌, length, Option, Some, None, Result, Ok, Err, refl, sym, ap, subst, ◌∙◌, append_assoc, ◌⊎◌, inl, inr}
+-- What a text spells, and its first fault, as one function, which says the same as the relations.
+use Rattle.std.proofs.Common.{ℕ, ◌≡◌, ◌+◌, Bool, true, false, cond, List, [], ◌∷◌, ◌++◌, length, Option, Some, None, Result, Ok, Err, refl, sym, ap, subst, ◌∙◌, append_assoc, ◌⊎◌, inl, inr}
 use Rattle.std.proofs.lemmas.List.{append-nil}
 use Rattle.std.specs.Prelude.{IfOk, IfErr}
+use Rattle.lp_base.specs.Answers.{Gives, Refuses}
 use Rattle.mps_lex.specs.Lines.{Line, lines_of}
 use Rattle.decks.specs.declared.deck.Deck.{Deck}
 use Rattle.decks.specs.declared.fault.DeckWhy.{DeckWhy}
@@ -10,10 +11,30 @@ use Rattle.decks.specs.declared.fault.DeckFault.{DeckFault}
 use Rattle.decks.specs.declared.fault.DeckFault.TheVariants as faults
 use Rattle.decks.specs.Spelling.{deck_of, size_of}
 use Rattle.decks.specs.Faults.{Found, fault_of}
-use Rattle.decks.specs.Texts.{IsClean, SpellsBehind, FailsBehind, Spells, Fails, FailsAs, Answer, answer, answer_from, judged, ends_deck, read_of, Gives}
+use Rattle.decks.specs.Texts.{IsClean, SpellsBehind, FailsBehind, Spells, Fails, FailsAs, found_by, ends_deck}
 
-abbrev Read : Type 0
+-- a deck with the place behind it
+abbrev pub Read : Type 0
 Read = Deck × ℕ
+
+-- a deck with its place, or the number of a line with its fault
+abbrev pub Answer : Type 0
+Answer = Result Read Found
+
+abbrev pub judged : Option Found → Bool → Read → Answer → Answer
+judged (Some found) ends read later = Err found
+judged None ends read later = cond ends (Ok read) later
+
+-- what the lines up to ENDATA give
+abbrev pub read_of : List Line → Line → Read
+read_of before l = (deck_of before l.number, size_of (before ++ l ∷ []))
+
+abbrev pub answer_from : List Line → List Line → Answer
+answer_from before [] = Err (length before + 1, NotClosed)
+answer_from before (l ∷ ls) = judged (fault_of before l) (ends_deck l.kind) (read_of before l) (answer_from (before ++ l ∷ []) ls)
+
+abbrev pub answer : List ℕ → Answer
+answer text = answer_from [] (lines_of text)
 
 abbrev is_read : Read → Answer
 is_read d = Ok d
@@ -153,22 +174,11 @@ refused before [] n w e =
     inr (tt, sym same.0 ∙ ap (λ (x : List Line). length x + 1) (sym (append-nil before)), sym same.1)
 refused before (l ∷ ls) n w e = failed_step before ls l n w (fault_of before l) (ends_deck l.kind) (λ h. refused (before ++ l ∷ []) ls n w h) refl refl e
 
--- ---- the clauses of the reader
+pub given_spelled : (text : List ℕ) (read : Read) → answer text ≡ Ok read → Spells text read.0 read.1
+given_spelled text read h = answered [] (lines_of text) read h
 
-pub given_spelled : (r : Result Read DeckFault) (text : List ℕ) → Gives r (answer text) → IfOk r (λ x. Spells text x.0 x.1)
-given_spelled (Ok read) text h = answered [] (lines_of text) read h
-given_spelled (Err f) text h = tt
-
-pub given_fails : (r : Result Read DeckFault) (text : List ℕ) → Gives r (answer text) → IfErr r (λ f. FailsAs f text)
-given_fails (Ok read) text h = tt
-given_fails (Err (faults.NoMemory e)) text h = tt
-given_fails (Err (faults.At n w)) text h = refused [] (lines_of text) n w h
-
-pub given_only : (r : Result Read DeckFault) (text : List ℕ) → Gives r (answer text) → (d : Deck) (place : ℕ) → Spells text d place → Gives r (Ok (d, place))
-given_only r text h d place s = subst (λ (a : Answer). Gives r a) (only_spelled text d place s) h
-
-pub given_only_fails : (r : Result Read DeckFault) (text : List ℕ) → Gives r (answer text) → (n : ℕ) (w : DeckWhy) → Fails text n w → Gives r (Err (n, w))
-given_only_fails r text h n w s = subst (λ (a : Answer). Gives r a) (only_failed text n w s) h
+pub given_fails : (text : List ℕ) (n : ℕ) (w : DeckWhy) → answer text ≡ Err (n, w) → Fails text n w
+given_fails text n w h = refused [] (lines_of text) n w h
 
 -- ---- laws
 
@@ -192,3 +202,21 @@ some text = by (answer text) refl
     by : (a : Answer) → answer text ≡ a → ((d : Deck) × (p : ℕ) × Spells text d p) ⊎ ((n : ℕ) × (w : DeckWhy) × Fails text n w)
     by (Ok read) e = inl (read.0, read.1, answered [] (lines_of text) read e)
     by (Err f) e = inr (f.0, f.1, refused [] (lines_of text) f.0 f.1 e)
+
+-- ---- what a call gives
+
+abbrev IsSpelled : List ℕ → Result Read DeckFault → Type 0
+IsSpelled text r = IfOk r (λ x. Spells text x.0 x.1)
+
+abbrev HasFailed : List ℕ → Result Read DeckFault → Type 0
+HasFailed text r = IfErr r (λ f. FailsAs f text)
+
+pub given_only : (r : Result Read DeckFault) (text : List ℕ) → IsSpelled text r → HasFailed text r → (d : Deck) (place : ℕ) → Spells text d place → Gives found_by (d, place) r
+given_only (Ok read) text h f d place s = let same = one_deck text read.0 d read.1 place h s in both read.0 d read.1 place same.0 same.1
+given_only (Err (faults.NoMemory e)) text h f d place s = tt
+given_only (Err (faults.At n w)) text h f d place s = not_both text d place n w s f
+
+pub given_only_fails : (r : Result Read DeckFault) (text : List ℕ) → IsSpelled text r → HasFailed text r → (n : ℕ) (w : DeckWhy) → Fails text n w → Refuses found_by (n, w) r
+given_only_fails (Ok read) text h f n w s = not_both text read.0 read.1 n w h s
+given_only_fails (Err (faults.NoMemory e)) text h f n w s = tt
+given_only_fails (Err (faults.At m v)) text h f n w s = let same = one_fault text m n v w f s in (λ i. (same.0 i, same.1 i))

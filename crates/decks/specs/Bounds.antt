@@ -1,4 +1,4 @@
--- The bounds of columns, by the lines of BOUNDS.
+-- Under `yes`: the bounds of columns, by the lines of BOUNDS.
 use Rattle.std.specs.Prelude.{ℕ, Bool, true, false, ◌&&◌, ◌==◌, min, if◌then◌else◌, List, [], ◌∷◌, map, filter, fold, Option, Some, None, codes}
 use Rattle.std.specs.List.{flat_map}
 use Rattle.std.specs.Str.{bytes_eq}
@@ -89,25 +89,25 @@ abbrev pub bound_set : List Name → Name
 bound_set [] = []
 bound_set (k ∷ fs) = set_with (bound_kind k) fs
 
--- ---- the bounds of a column
+-- ---- the bounds of a column: what a kind does to each, which is nothing, or to set it to this end or to none
 
--- LO sets the lower bound, FX both; FR removes both, MI the lower one
-abbrev pub sets_lower : BoundKind → Bool
-sets_lower Up = false
-sets_lower Lo = true
-sets_lower Fx = true
-sets_lower Fr = true
-sets_lower Mi = true
-sets_lower Pl = false
+-- LO and FX set the lower bound, FR and MI remove it
+abbrev pub lower_by : BoundKind → Fraction → Option (Option Fraction)
+lower_by Up v = None
+lower_by Lo v = Some (lower_end v)
+lower_by Fx v = Some (Some v)
+lower_by Fr v = Some None
+lower_by Mi v = Some None
+lower_by Pl v = None
 
--- UP sets the upper bound, FX both; FR removes both, PL the upper one
-abbrev pub sets_upper : BoundKind → Bool
-sets_upper Up = true
-sets_upper Lo = false
-sets_upper Fx = true
-sets_upper Fr = true
-sets_upper Mi = false
-sets_upper Pl = true
+-- UP and FX set the upper bound, FR and PL remove it
+abbrev pub upper_by : BoundKind → Fraction → Option (Option Fraction)
+upper_by Up v = Some (upper_end v)
+upper_by Lo v = None
+upper_by Fx v = Some (Some v)
+upper_by Fr v = Some None
+upper_by Mi v = None
+upper_by Pl v = Some None
 
 abbrev pub is_fx : BoundKind → Bool
 is_fx Up = false
@@ -117,51 +117,29 @@ is_fx Fr = false
 is_fx Mi = false
 is_fx Pl = false
 
--- the end that a line gives the lower bound, and the upper bound
-abbrev pub lower_by : BoundKind → Fraction → Option Fraction
-lower_by Up v = None
-lower_by Lo v = lower_end v
-lower_by Fx v = Some v
-lower_by Fr v = None
-lower_by Mi v = None
-lower_by Pl v = None
+-- a bound behind a line that leaves it or sets it
+abbrev pub bound_behind : ℕ → Bound → Option (Option Fraction) → Bound
+bound_behind line bound None = bound
+bound_behind line bound (Some end) = record { value = end; line = line }
 
-abbrev pub upper_by : BoundKind → Fraction → Option Fraction
-upper_by Up v = upper_end v
-upper_by Lo v = None
-upper_by Fx v = Some v
-upper_by Fr v = None
-upper_by Mi v = None
-upper_by Pl v = None
+-- a column that no line names
+abbrev pub default_column : Column
+default_column = record { lower = record { value = Some zero; line = 0 }; upper = record { value = None; line = 0 }; fixed = false }
 
--- a line, or the one found before it where this one does not set that side of the column
-abbrev pub later : (BoundKind → Bool) → Name → Option Setting → Setting → Option Setting
-later sets c found s = if sets s.kind && bytes_eq c s.column then Some s else found
+-- a column behind a line that names it. It is fixed where the last such line is of the kind FX.
+abbrev pub set_by : Column → Setting → Column
+set_by c s = record {
+  lower = bound_behind s.line c.lower (lower_by s.kind s.value);
+  upper = bound_behind s.line c.upper (upper_by s.kind s.value);
+  fixed = is_fx s.kind;
+}
 
--- the last line that sets a side of a column
-abbrev pub last_setting : (BoundKind → Bool) → List Setting → Name → Option Setting
-last_setting sets ss c = fold (later sets c) None ss
-
-abbrev pub lower_bound : Option Setting → Bound
-lower_bound None = record { value = Some zero; line = 0 }
-lower_bound (Some s) = record { value = lower_by s.kind s.value; line = s.line }
-
-abbrev pub upper_bound : Option Setting → Bound
-upper_bound None = record { value = None; line = 0 }
-upper_bound (Some s) = record { value = upper_by s.kind s.value; line = s.line }
-
--- whether both sides are set by one line, of the kind FX
-abbrev pub are_fixed : Option Setting → Option Setting → Bool
-are_fixed None u = false
-are_fixed (Some l) None = false
-are_fixed (Some l) (Some u) = is_fx l.kind && is_fx u.kind && l.line == u.line
+abbrev pub settings_of : Name → List Setting → List Setting
+settings_of c ss = filter (λ s. bytes_eq c s.column) ss
 
 -- a column has the lower bound 0 and no upper bound, unless lines say otherwise, of which a later one replaces an earlier one
 abbrev pub column_bounds : List Setting → Name → Column
-column_bounds ss c =
-    let lower = last_setting sets_lower ss c in
-    let upper = last_setting sets_upper ss c in
-    record { lower = lower_bound lower; upper = upper_bound upper; fixed = are_fixed lower upper }
+column_bounds ss c = fold set_by default_column (settings_of c ss)
 
 -- ---- upper bounds below 0
 

@@ -1,4 +1,4 @@
--- The facts that a deck keeps.
+-- Under `yes`: the facts that a deck keeps.
 use Rattle.std.specs.Prelude.{◌≡◌, ◌≢◌, ◌≤◌, ◌<◌, ◌+◌, ◌^◌, ◌==◌, ℕ, pos, Bool, true, false, List, All, IsTrue, IfSome, Some, filter, length, slice_get, unsigned_abs}
 use Rattle.lp_base.specs.Ascending.{ascends_by}
 use Rattle.lp_base.specs.declared.limits.TheConstants.{MOST_COLUMNS, MOST_ENTRIES, MOST_PAIRS, MOST_ROWS}

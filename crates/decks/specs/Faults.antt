@@ -1,4 +1,4 @@
--- The fault of a line: that line and the lines before it decide.
+-- Under `yes`: the fault of a line: that line and the lines before it decide.
 use Rattle.std.specs.Prelude.{ℕ, ◌+◌, Bool, not, ◌&&◌, ◌||◌, nat_le, nat_lt, is_some, is_none, codes, if◌then◌else◌, List, [], ◌∷◌, ◌++◌, length, Option, Some, None, option_map}
 use Rattle.std.specs.Str.{bytes_eq}
 use Rattle.lp_base.specs.declared.limits.TheConstants.{MOST_COLUMNS, MOST_ENTRIES, MOST_PAIRS, MOST_ROWS}
@@ -16,7 +16,7 @@ use Rattle.decks.specs.Decks.{is_inequality}
 use Rattle.decks.specs.Names.{has, place, named}
 use Rattle.decks.specs.Numbers.{text_fault, is_zero}
 use Rattle.decks.specs.Sections.{Open, is_open, open_behind, open_rank, is_begun, slice, may_follow}
-use Rattle.decks.specs.Spelling.{RowLine, rows_of, field, row_named, has_objective, other_rows, is_n, letter_of, entries_in, rows_in, column_names, Given, given, given_set, givens_in, first_set, pair_names, is_col}
+use Rattle.decks.specs.Spelling.{RowLine, rows_of, field, row_named, has_objective, other_rows, is_n, letter_of, entries_in, rows_in, column_names, RowValue, row_value, row_values_set, row_values_in, first_set, pair_names, is_col}
 use Rattle.decks.specs.Bounds.{bound_kind, takes_value, BoundWords, bound_words, bound_set, settings_in, column_bounds, upper_below_zero}
 
 -- the first of two faults
@@ -65,23 +65,23 @@ abbrev pub full_fault : List Name → ℕ → Name → ℕ → Option DeckWhy
 full_fault columns entries c more = fault_if ((not (has columns c) && nat_le MOST_COLUMNS (length columns)) || nat_lt MOST_ENTRIES (entries + more)) TooMany
 
 abbrev pub two_entries_fault : List RowLine → List Name → Name → Name → Name → Name → Option DeckWhy
-two_entries_fault rows given r v s w = entry_fault rows (has given r) r v or entry_fault rows (has (given ++ r ∷ []) s) s w
+two_entries_fault rows here r v s w = entry_fault rows (has here r) r v or entry_fault rows (has (here ++ r ∷ []) s) s w
 
 -- the count of fields, the column and its entries, below these rows, columns, rows in which this column has entries, and
 -- number of entries
 abbrev pub column_words_fault : List RowLine → List Name → List Name → ℕ → List Name → Option DeckWhy
-column_words_fault rows columns given entries (c ∷ r ∷ v ∷ []) =
-    split_fault columns c or entry_fault rows (has given r) r v or full_fault columns entries c 1
-column_words_fault rows columns given entries (c ∷ r ∷ v ∷ s ∷ w ∷ []) =
-    split_fault columns c or two_entries_fault rows given r v s w or full_fault columns entries c 2
-column_words_fault rows columns given entries [] = Some FieldCount
-column_words_fault rows columns given entries (c ∷ []) = Some FieldCount
-column_words_fault rows columns given entries (c ∷ r ∷ []) = Some FieldCount
-column_words_fault rows columns given entries (c ∷ r ∷ v ∷ s ∷ []) = Some FieldCount
-column_words_fault rows columns given entries (c ∷ r ∷ v ∷ s ∷ w ∷ x ∷ fs) = Some FieldCount
+column_words_fault rows columns here entries (c ∷ r ∷ v ∷ []) =
+    split_fault columns c or entry_fault rows (has here r) r v or full_fault columns entries c 1
+column_words_fault rows columns here entries (c ∷ r ∷ v ∷ s ∷ w ∷ []) =
+    split_fault columns c or two_entries_fault rows here r v s w or full_fault columns entries c 2
+column_words_fault rows columns here entries [] = Some FieldCount
+column_words_fault rows columns here entries (c ∷ []) = Some FieldCount
+column_words_fault rows columns here entries (c ∷ r ∷ []) = Some FieldCount
+column_words_fault rows columns here entries (c ∷ r ∷ v ∷ s ∷ []) = Some FieldCount
+column_words_fault rows columns here entries (c ∷ r ∷ v ∷ s ∷ w ∷ x ∷ fs) = Some FieldCount
 
 abbrev pub column_fault : List RowLine → List Name → List Name → ℕ → List Name → Option DeckWhy
-column_fault rows columns given entries fs = marker_fault fs or column_words_fault rows columns given entries fs
+column_fault rows columns here entries fs = marker_fault fs or column_words_fault rows columns here entries fs
 
 -- ---- RHS and RANGES
 
@@ -91,21 +91,21 @@ set_fault None t = None
 set_fault (Some s) t = fault_if (not (bytes_eq s t)) SecondSet
 
 -- one or two rows with their values, below these rows and those that are given
-abbrev pub one_given_fault : List RowLine → List Given → Name → Name → Option DeckWhy
-one_given_fault rows gs r v = entry_fault rows (is_some (named gs r)) r v
+abbrev pub one_row_value_fault : List RowLine → List RowValue → Name → Name → Option DeckWhy
+one_row_value_fault rows gs r v = entry_fault rows (is_some (named gs r)) r v
 
-abbrev pub two_givens_fault : List RowLine → List Given → Name → Name → Name → Name → Option DeckWhy
-two_givens_fault rows gs r v s w = one_given_fault rows gs r v or one_given_fault rows (gs ++ given r v ∷ []) s w
+abbrev pub two_row_values_fault : List RowLine → List RowValue → Name → Name → Name → Name → Option DeckWhy
+two_row_values_fault rows gs r v s w = one_row_value_fault rows gs r v or one_row_value_fault rows (gs ++ row_value r v ∷ []) s w
 
 -- a line of RHS or RANGES, below these rows, the set of the lines before it, and what they give
-abbrev pub givens_fault : List RowLine → Option Name → List Given → List Name → Option DeckWhy
-givens_fault rows set gs (r ∷ v ∷ []) = set_fault set [] or one_given_fault rows gs r v
-givens_fault rows set gs (t ∷ r ∷ v ∷ []) = set_fault set t or one_given_fault rows gs r v
-givens_fault rows set gs (r ∷ v ∷ s ∷ w ∷ []) = set_fault set [] or two_givens_fault rows gs r v s w
-givens_fault rows set gs (t ∷ r ∷ v ∷ s ∷ w ∷ []) = set_fault set t or two_givens_fault rows gs r v s w
-givens_fault rows set gs [] = Some FieldCount
-givens_fault rows set gs (t ∷ []) = Some FieldCount
-givens_fault rows set gs (t ∷ r ∷ v ∷ s ∷ w ∷ x ∷ fs) = Some FieldCount
+abbrev pub row_values_fault : List RowLine → Option Name → List RowValue → List Name → Option DeckWhy
+row_values_fault rows set gs (r ∷ v ∷ []) = set_fault set [] or one_row_value_fault rows gs r v
+row_values_fault rows set gs (t ∷ r ∷ v ∷ []) = set_fault set t or one_row_value_fault rows gs r v
+row_values_fault rows set gs (r ∷ v ∷ s ∷ w ∷ []) = set_fault set [] or two_row_values_fault rows gs r v s w
+row_values_fault rows set gs (t ∷ r ∷ v ∷ s ∷ w ∷ []) = set_fault set t or two_row_values_fault rows gs r v s w
+row_values_fault rows set gs [] = Some FieldCount
+row_values_fault rows set gs (t ∷ []) = Some FieldCount
+row_values_fault rows set gs (t ∷ r ∷ v ∷ s ∷ w ∷ x ∷ fs) = Some FieldCount
 
 -- ---- BOUNDS
 
@@ -186,10 +186,10 @@ data_fault (Some section.Columns) before fs =
     column_fault (rows_of (slice section.Rows before)) (column_names (slice section.Columns before)) (rows_in (field 0 fs) entries) (length entries) fs
 data_fault (Some section.Rhs) before fs =
     let rights = slice section.Rhs before in
-    givens_fault (rows_of (slice section.Rows before)) (first_set given_set rights) (givens_in rights) fs
+    row_values_fault (rows_of (slice section.Rows before)) (first_set row_values_set rights) (row_values_in rights) fs
 data_fault (Some section.Ranges) before fs =
     let ranges = slice section.Ranges before in
-    givens_fault (rows_of (slice section.Rows before)) (first_set given_set ranges) (givens_in ranges) fs
+    row_values_fault (rows_of (slice section.Rows before)) (first_set row_values_set ranges) (row_values_in ranges) fs
 data_fault (Some section.Bounds) before fs =
     bound_fault (column_names (slice section.Columns before)) (first_set bound_set (slice section.Bounds before)) fs
 data_fault (Some section.Pairs) before fs =

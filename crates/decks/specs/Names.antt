@@ -1,4 +1,4 @@
--- Lists of names, and of names with what is known of each.
+-- Under `yes`: lists of names, and of names with what is known of each.
 use Rattle.std.specs.Prelude.{ℕ, Bool, if◌then◌else◌, List, [], ◌∷◌, ◌++◌, fold, Option, Some, None}
 use Rattle.std.specs.List.{list_any, position_or_len}
 use Rattle.std.specs.Str.{bytes_eq}

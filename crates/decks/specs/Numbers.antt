@@ -1,4 +1,4 @@
--- The numbers of a deck: decimal texts, as fractions in lowest terms.
+-- Under `yes`: the numbers of a deck: decimal texts, as fractions in lowest terms.
 use Rattle.std.specs.Prelude.{ℕ, zero, suc, ◌%◌, ◌==◌, Bool, false, if◌then◌else◌, Option, Some, None, ℤ, pos, neg_ℤ, ◌*ℤ◌, int_div, int_le, int_lt, unsigned_abs, option_map}
 use Rattle.std.specs.Ordering.{int_eq}
 use Rattle.lp_base.specs.declared.limits.TheConstants.{NO_BOUND_FROM}

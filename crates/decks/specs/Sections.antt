@@ -1,4 +1,4 @@
--- The sections of a deck: the slice of data lines of each, and the order of their heads.
+-- Under `yes`: the sections of a deck: the slice of data lines of each, and the order of their heads.
 use Rattle.std.specs.Prelude.{ℕ, Bool, true, false, not, ◌&&◌, ◌==◌, nat_le, if◌then◌else◌, List, [], ◌∷◌, ◌++◌, Option, Some, None}
 use Rattle.std.specs.List.{list_any}
 use Rattle.mps_lex.specs.declared.line.Section.{Section}

@@ -1,4 +1,4 @@
--- The deck that lines spell: each part of it is made from the lines of its slice, in their order.
+-- Under `yes`: the deck that lines spell: each part of it is made from the lines of its slice, in their order.
 use Rattle.std.specs.Prelude.{ℕ, ◌+◌, Bool, true, false, not, ◌&&◌, if◌then◌else◌, List, [], ◌∷◌, ◌++◌, length, map, filter, fold, slice_index_or, Option, Some, None, is_some, unwrap_or, count_by, codes}
 use Rattle.std.specs.List.{flat_map, list_any, find, position_or_len}
 use Rattle.std.specs.Str.{bytes_eq}
@@ -82,15 +82,15 @@ number_of_row (Some r) = r.number
 -- ---- COLUMNS: a column, and once or twice a row and a value
 
 -- a row and a value
-abbrev pub Given : Type 0
-Given = Name × Fraction
+abbrev pub RowValue : Type 0
+RowValue = Name × Fraction
 
-abbrev pub given : Name → Name → Given
-given r v = (r, value_of v)
+abbrev pub row_value : Name → Name → RowValue
+row_value r v = (r, value_of v)
 
-abbrev pub values_on : List Name → List Given
-values_on (c ∷ r ∷ v ∷ []) = given r v ∷ []
-values_on (c ∷ r ∷ v ∷ s ∷ w ∷ []) = given r v ∷ given s w ∷ []
+abbrev pub values_on : List Name → List RowValue
+values_on (c ∷ r ∷ v ∷ []) = row_value r v ∷ []
+values_on (c ∷ r ∷ v ∷ s ∷ w ∷ []) = row_value r v ∷ row_value s w ∷ []
 values_on [] = []
 values_on (c ∷ []) = []
 values_on (c ∷ r ∷ []) = []
@@ -103,7 +103,7 @@ pub record NamedEntry : Type 0 where
   pub row : Name
   pub value : Fraction
 
-abbrev pub in_column : Name → Given → NamedEntry
+abbrev pub in_column : Name → RowValue → NamedEntry
 in_column c g = record { column = c; row = g.0; value = g.1 }
 
 abbrev pub entries_on : List Name → List NamedEntry
@@ -133,26 +133,26 @@ deck_entries rows columns es = flat_map (entry_of rows columns) es
 -- ---- RHS and RANGES: the name of a set or none, and once or twice a row and a value
 
 -- the set that a line names; a missing name is the empty one, which no field is
-abbrev pub given_set : List Name → Name
-given_set (t ∷ r ∷ v ∷ []) = t
-given_set (t ∷ r ∷ v ∷ s ∷ w ∷ []) = t
-given_set [] = []
-given_set (t ∷ []) = []
-given_set (r ∷ v ∷ []) = []
-given_set (r ∷ v ∷ s ∷ w ∷ []) = []
-given_set (t ∷ r ∷ v ∷ s ∷ w ∷ x ∷ fs) = []
+abbrev pub row_values_set : List Name → Name
+row_values_set (t ∷ r ∷ v ∷ []) = t
+row_values_set (t ∷ r ∷ v ∷ s ∷ w ∷ []) = t
+row_values_set [] = []
+row_values_set (t ∷ []) = []
+row_values_set (r ∷ v ∷ []) = []
+row_values_set (r ∷ v ∷ s ∷ w ∷ []) = []
+row_values_set (t ∷ r ∷ v ∷ s ∷ w ∷ x ∷ fs) = []
 
-abbrev pub givens_on : List Name → List Given
-givens_on (r ∷ v ∷ []) = given r v ∷ []
-givens_on (t ∷ r ∷ v ∷ []) = given r v ∷ []
-givens_on (r ∷ v ∷ s ∷ w ∷ []) = given r v ∷ given s w ∷ []
-givens_on (t ∷ r ∷ v ∷ s ∷ w ∷ []) = given r v ∷ given s w ∷ []
-givens_on [] = []
-givens_on (t ∷ []) = []
-givens_on (t ∷ r ∷ v ∷ s ∷ w ∷ x ∷ fs) = []
+abbrev pub row_values_on : List Name → List RowValue
+row_values_on (r ∷ v ∷ []) = row_value r v ∷ []
+row_values_on (t ∷ r ∷ v ∷ []) = row_value r v ∷ []
+row_values_on (r ∷ v ∷ s ∷ w ∷ []) = row_value r v ∷ row_value s w ∷ []
+row_values_on (t ∷ r ∷ v ∷ s ∷ w ∷ []) = row_value r v ∷ row_value s w ∷ []
+row_values_on [] = []
+row_values_on (t ∷ []) = []
+row_values_on (t ∷ r ∷ v ∷ s ∷ w ∷ x ∷ fs) = []
 
-abbrev pub givens_in : List Line → List Given
-givens_in ls = flat_map (λ l. givens_on l.fields) ls
+abbrev pub row_values_in : List Line → List RowValue
+row_values_in ls = flat_map (λ l. row_values_on l.fields) ls
 
 -- the set of the first of these lines
 abbrev pub first_set : (List Name → Name) → List Line → Option Name
@@ -160,7 +160,7 @@ first_set set_on [] = None
 first_set set_on (l ∷ ls) = Some (set_on l.fields)
 
 -- a right-hand side that is not given is 0, and the objective has no range
-abbrev pub deck_row : List Given → List Given → RowLine → rows.Row
+abbrev pub deck_row : List RowValue → List RowValue → RowLine → rows.Row
 deck_row rights ranges r = record {
   letter = r.letter;
   line = r.line;
@@ -196,7 +196,7 @@ deck_of ls end_line =
     let rows = rows_of (slice Rows ls) in
     let columns = column_names (slice Columns ls) in
     record {
-      rows = map (deck_row (givens_in (slice Rhs ls)) (givens_in (slice Ranges ls))) (kept rows);
+      rows = map (deck_row (row_values_in (slice Rhs ls)) (row_values_in (slice Ranges ls))) (kept rows);
       objective = position_or_len (λ r. is_n r.letter) (kept rows);
       columns = map (column_bounds (settings_in (slice Bounds ls))) columns;
       entries = deck_entries rows columns (entries_in (slice Columns ls));

@@ -1,5 +1,6 @@
--- Which deck a text spells, and which fault is its first.
-use Rattle.std.specs.Prelude.{◌≡◌, ℕ, ◌+◌, ◌⊎◌, Bool, true, false, List, [], ◌∷◌, ◌++◌, length, Option, None, Some, Result, Ok, Err, if◌then◌else◌}
+-- Under `yes`: which deck a text spells, and which fault is its first.
+use Rattle.std.specs.Prelude.{◌≡◌, ℕ, ◌+◌, ◌⊎◌, Bool, true, false, List, [], ◌∷◌, ◌++◌, length, Option, None, Some}
+use Rattle.lp_base.specs.Answers.{UnlessShort}
 use Rattle.mps_lex.specs.Lines.{Line, lines_of}
 use Rattle.mps_lex.specs.declared.line.LineKind.{LineKind}
 use Rattle.mps_lex.specs.declared.line.Section.TheVariants.{Endata}
@@ -52,38 +53,11 @@ Fails text number why =
     FailsBehind [] (lines_of text) (number, why)
     ⊎ (IsClean [] (lines_of text) × (number ≡ length (lines_of text) + 1) × (why ≡ NotClosed))
 
+-- the line and the fault that a call names, none where memory is short
+abbrev pub found_by : DeckFault → Option Found
+found_by (NoMemory e) = None
+found_by (At line why) = Some (line, why)
+
 -- the fault that a call names is the text's first, unless memory is short
 abbrev pub FailsAs : DeckFault → List ℕ → Type 0
-FailsAs (NoMemory e) text = Unit {0}
-FailsAs (At line why) text = Fails text line why
-
--- ---- the same as a function
-
--- a deck with the place behind it, or the number of a line with its fault
-abbrev pub Answer : Type 0
-Answer = Result (Deck × ℕ) Found
-
-abbrev pub judged : Option Found → Bool → Deck × ℕ → Answer → Answer
-judged (Some found) ends read later = Err found
-judged None ends read later = if ends then Ok read else later
-
--- what the lines up to ENDATA give
-abbrev pub read_of : List Line → Line → Deck × ℕ
-read_of before l = (deck_of before l.number, size_of (before ++ l ∷ []))
-
-abbrev pub answer_from : List Line → List Line → Answer
-answer_from before [] = Err (length before + 1, NotClosed)
-answer_from before (l ∷ ls) = judged (fault_of before l) (ends_deck l.kind) (read_of before l) (answer_from (before ++ l ∷ []) ls)
-
-abbrev pub answer : List ℕ → Answer
-answer text = answer_from [] (lines_of text)
-
--- a call's fault is the text's first, unless memory is short
-abbrev pub Refuses : DeckFault → Answer → Type 0
-Refuses (NoMemory e) a = Unit {0}
-Refuses (At line why) a = a ≡ Err (line, why)
-
--- what a call gives is a text's answer, unless memory is short
-abbrev pub Gives : Result (Deck × ℕ) DeckFault → Answer → Type 0
-Gives (Ok read) a = a ≡ Ok read
-Gives (Err f) a = Refuses f a
+FailsAs fault text = UnlessShort found_by (λ found. Fails text found.0 found.1) fault

@@ -14,4 +14,7 @@ mod laws;
 pub use bounds::BoundKind;
 pub use deck::{Bound, Column, Deck, Entry, Letter, PairLine, Quantity, Row};
 pub use fault::{DeckFault, DeckWhy};
-pub use laws::{spelled_by_first_lines, spelled_decks_keep, spelled_once, spelled_or_faulty};
+pub use laws::{
+    decimals_keep_their_value, spelled_by_first_lines, spelled_decks_keep, spelled_once,
+    spelled_or_faulty,
+};

@@ -1,4 +1,4 @@
--- Decimal numbers as texts of bytes, and what they spell.
+-- Under `yes`: decimal numbers as texts of bytes, and what they spell.
 use Rattle.std.specs.Prelude.{ℕ, suc, ◌-◌, ◌^◌, Bool, not, ◌&&◌, ◌||◌, cond, ◌==◌, nat_lt, nat_le, List, [], ◌∷◌, length, filter, count_by, ℤ, pos, negsuc, neg_ℤ, ◌+ℤ◌, ◌-ℤ◌, ◌*ℤ◌, int_lt}
 use Rattle.std.specs.List.{list_any, list_all, before_first, after_first, suffix_len}
 use Rattle.std.specs.Char.{is_ascii_digit}

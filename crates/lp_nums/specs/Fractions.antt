@@ -1,4 +1,4 @@
--- Fractions as pairs of whole numbers.
+-- Under `yes`: fractions as pairs of whole numbers.
 use Rattle.std.specs.Prelude.{◌≡◌, ℤ, pos, ◌*ℤ◌, ◌≤ℤ◌, unsigned_abs}
 use Rattle.std.specs.Int.{IsGcd}
 use Rattle.std.specs.declared.cmp.Ordering.{Ordering}

@@ -1,4 +1,4 @@
--- Which texts are refused as numbers, and why.
+-- Under `yes`: which texts are refused as numbers, and why.
 use Rattle.std.specs.Prelude.{ℕ, cond, List, Option, Some, None}
 use Rattle.lp_nums.specs.declared.decimals.NumberFault.{NumberFault}
 use Rattle.lp_nums.specs.declared.decimals.NumberFault.TheVariants.{NumberText, NumberWide}

@@ -1,4 +1,4 @@
--- Fractions as texts.
+-- Under `yes`: fractions as texts.
 use Rattle.std.specs.Prelude.{ℕ, List, ◌++◌, cond, pos, codes}
 use Rattle.std.specs.Ordering.{int_eq}
 use Rattle.std.specs.Fmt.{signed_decimal}

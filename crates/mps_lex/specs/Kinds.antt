@@ -1,4 +1,4 @@
--- Fields, and what kind of line bytes are.
+-- Under `yes`: fields, and what kind of line bytes are.
 use Rattle.std.specs.Prelude.{ℕ, Bool, true, false, ◌||◌, ◌==◌, codes, if◌then◌else◌, List, [], ◌∷◌, Option, Some, None}
 use Rattle.std.specs.Str.{bytes_eq}
 use Rattle.mps_lex.specs.declared.line.Section.{Section}

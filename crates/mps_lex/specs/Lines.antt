@@ -1,4 +1,4 @@
--- How a text falls into lines, and a line into fields.
+-- Under `yes`: how a text falls into lines, and a line into fields.
 use Rattle.std.specs.Prelude.{ℕ, ◌+◌, Bool, false, ◌==◌, if◌then◌else◌, List, [], ◌∷◌, length}
 use Rattle.mps_lex.specs.declared.line.LineKind.{LineKind}
 use Rattle.mps_lex.specs.Kinds.{Name, fields, kind_of}

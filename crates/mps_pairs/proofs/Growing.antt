@@ -14,9 +14,10 @@ use Rattle.decks.specs.declared.deck.Entry.{Entry}
 use Rattle.decks.specs.declared.fault.DeckWhy.{DeckWhy}
 use Rattle.decks.specs.declared.fault.DeckWhy.TheVariants.{ColumnSplit}
 use Rattle.decks.specs.Names.{has, place, add_name}
-use Rattle.decks.specs.Spelling.{field, RowLine, row_line, add_row, rows_of, row_named, number_of_row, Given, in_column, NamedEntry, values_on, entries_on, entries_in, rows_in, column_names, entry_at, entry_of, deck_entries, given_set, givens_on, givens_in, pair_of}
+use Rattle.decks.specs.Spelling.{field, RowLine, row_line, add_row, rows_of, row_named, number_of_row, RowValue, in_column, NamedEntry, values_on, entries_on, entries_in, rows_in, column_names, entry_at, entry_of, deck_entries, row_values_set, row_values_on, row_values_in, pair_of}
 use Rattle.decks.specs.Faults.{◌or◌, split_fault, entry_fault, two_entries_fault, full_fault, marker_fault, column_words_fault, column_fault}
-use Rattle.mps_pairs.specs.Known.{KnownColumns, last_name, known_columns, rows_here, with_name, with_entry, with_entries, with_column, known_row_values, with_row_values, known_pairs, with_pair}
+use Rattle.mps_tables.specs.Known.{KnownColumns, last_name, known_columns, rows_here, with_name, with_entry, with_entries, with_column, known_row_values, with_row_values}
+use Rattle.mps_pairs.specs.Known.{known_pairs, with_pair}
 use Rattle.decks.proofs.KeptParts.{first_none, second_none, if_none}
 use Rattle.decks.proofs.KeptNames.{same_name, own_name, place_more, columns_push}
 use Rattle.decks.proofs.KeptEntries.{IsNamed}
@@ -29,11 +30,11 @@ rows_push rs l = fold_push add_row [] rs l
 
 -- ---- RHS and RANGES
 
-givens_push : (hs : List Line) (l : Line) → givens_in (hs ++ l ∷ []) ≡ givens_in hs ++ givens_on l.fields
-givens_push hs l = flat_map-append (λ (x : Line). givens_on x.fields) hs (l ∷ []) ∙ ap (λ (x : List Given). givens_in hs ++ x) (append-nil (givens_on l.fields))
+givens_push : (hs : List Line) (l : Line) → row_values_in (hs ++ l ∷ []) ≡ row_values_in hs ++ row_values_on l.fields
+givens_push hs l = flat_map-append (λ (x : Line). row_values_on x.fields) hs (l ∷ []) ∙ ap (λ (x : List RowValue). row_values_in hs ++ x) (append-nil (row_values_on l.fields))
 
-pub set_and_givens_push : (hs : List Line) (l : Line) → known_row_values (hs ++ l ∷ []) ≡ with_row_values (known_row_values hs) l.fields
-set_and_givens_push hs l = λ i. record { set = set_push given_set hs l i; givens = givens_push hs l i }
+pub set_and_values_push : (hs : List Line) (l : Line) → known_row_values (hs ++ l ∷ []) ≡ with_row_values (known_row_values hs) l.fields
+set_and_values_push hs l = λ i. record { set = set_push row_values_set hs l i; values = givens_push hs l i }
 
 -- ---- PAIRS
 
@@ -115,7 +116,7 @@ with_entries_is rows k (e ∷ es) = with_entries_is rows (with_entry rows k e) e
   entries = append_assoc k.entries (entry_of rows k.names e) (deck_entries rows k.names es) i;
 })
 
-own_rows : (c : Name) (gs : List Given) → rows_in c (map (in_column c) gs) ≡ map row_of (map (in_column c) gs)
+own_rows : (c : Name) (gs : List RowValue) → rows_in c (map (in_column c) gs) ≡ map row_of (map (in_column c) gs)
 own_rows c [] = refl
 own_rows c (g ∷ gs) =
     let rest = filter (λ (y : NamedEntry). bytes_eq c y.column) (map (in_column c) gs) in
@@ -161,17 +162,17 @@ known_columns_push rows cs l whole named =
 not_split : (columns : List Name) (c : Name) → split_fault columns c ≡ None → IsWhole columns c
 not_split columns c e = ltb-false (place columns c + 1) (length columns) (if_none (ltb (place columns c + 1) (length columns)) ColumnSplit e)
 
-words_whole : (rows : List RowLine) (columns given : List Name) (n : ℕ) (fs : List Name) → column_words_fault rows columns given n fs ≡ None → IsWhole columns (field 0 fs)
-words_whole rows columns given n [] e = absurd cc
-words_whole rows columns given n (c ∷ []) e = absurd cc
-words_whole rows columns given n (c ∷ r ∷ []) e = absurd cc
-words_whole rows columns given n (c ∷ r ∷ v ∷ []) e = not_split columns c (first_none (split_fault columns c) _ e)
-words_whole rows columns given n (c ∷ r ∷ v ∷ s ∷ []) e = absurd cc
-words_whole rows columns given n (c ∷ r ∷ v ∷ s ∷ w ∷ []) e = not_split columns c (first_none (split_fault columns c) _ e)
-words_whole rows columns given n (c ∷ r ∷ v ∷ s ∷ w ∷ x ∷ fs) e = absurd cc
+words_whole : (rows : List RowLine) (columns here : List Name) (n : ℕ) (fs : List Name) → column_words_fault rows columns here n fs ≡ None → IsWhole columns (field 0 fs)
+words_whole rows columns here n [] e = absurd cc
+words_whole rows columns here n (c ∷ []) e = absurd cc
+words_whole rows columns here n (c ∷ r ∷ []) e = absurd cc
+words_whole rows columns here n (c ∷ r ∷ v ∷ []) e = not_split columns c (first_none (split_fault columns c) _ e)
+words_whole rows columns here n (c ∷ r ∷ v ∷ s ∷ []) e = absurd cc
+words_whole rows columns here n (c ∷ r ∷ v ∷ s ∷ w ∷ []) e = not_split columns c (first_none (split_fault columns c) _ e)
+words_whole rows columns here n (c ∷ r ∷ v ∷ s ∷ w ∷ x ∷ fs) e = absurd cc
 
-pub line_whole : (rows : List RowLine) (columns given : List Name) (n : ℕ) (fs : List Name) → column_fault rows columns given n fs ≡ None → IsWhole columns (field 0 fs)
-line_whole rows columns given n fs e = words_whole rows columns given n fs (second_none (marker_fault fs) (column_words_fault rows columns given n fs) e)
+pub line_whole : (rows : List RowLine) (columns here : List Name) (n : ℕ) (fs : List Name) → column_fault rows columns here n fs ≡ None → IsWhole columns (field 0 fs)
+line_whole rows columns here n fs e = words_whole rows columns here n fs (second_none (marker_fault fs) (column_words_fault rows columns here n fs) e)
 
 unless_first : (a b c : Option DeckWhy) → (a ≡ None → b ≡ c) → (a or b) ≡ (a or c)
 unless_first None b c f = f refl

@@ -3,6 +3,7 @@ use Rattle.std.proofs.Common.{ℕ, ◌≡◌, Bool, true, false, ◌&&◌, ◌||
 use Rattle.std.proofs.lemmas.Bool.{or_parts, true≢false, eq-eqb}
 use Rattle.std.proofs.lemmas.List.{append-nil, map_push}
 use Rattle.std.proofs.lemmas.List.Concat.{flat_map-append}
+use Rattle.std.proofs.lemmas.List.Elements.{filter-append}
 use Rattle.std.proofs.lemmas.List.Folds.{list_any-append}
 use Rattle.std.proofs.lemmas.List.Sums.{fold_push}
 use Rattle.std.specs.Prelude.{fold, unwrap_or}
@@ -14,65 +15,27 @@ use Rattle.decks.specs.declared.bounds.BoundKind.{BoundKind}
 use Rattle.decks.specs.declared.bounds.BoundKind.TheVariants.{Up, Lo, Fx, Fr, Mi, Pl}
 use Rattle.decks.specs.declared.deck.Column.{Column}
 use Rattle.decks.specs.Names.{has, add_name, named, put}
-use Rattle.decks.specs.Bounds.{Setting, setting_on, settings_in, bound_set, sets_lower, sets_upper, is_fx, later, last_setting, lower_bound, upper_bound, are_fixed, column_bounds, bounded, below_zero_line, upper_below_zero}
+use Rattle.decks.specs.Bounds.{Setting, setting_on, settings_in, bound_set, default_column, set_by, settings_of, column_bounds, bounded, below_zero_line, upper_below_zero}
 use Rattle.decks.specs.Spelling.{first_set}
-use Rattle.mps_pairs.specs.Known.{set_or, bounds_of, known_bounds, default_column, bounds_with, set_by, with_setting, with_settings, with_bound}
+use Rattle.mps_tables.specs.Known.{set_or, bounds_of, known_bounds, bounds_with, with_setting, with_settings, with_bound}
 use Rattle.decks.proofs.KeptNames.{same_name, own_name, has_more, has_added}
 
 -- ---- the bounds of a column behind one more setting
 
-abbrev column_with : Option Setting → Option Setting → Column
-column_with l u = record { lower = lower_bound l; upper = upper_bound u; fixed = are_fixed l u }
+-- those of a column are one more, or the same, by whether the setting is of that column
+own_push : (b : Bool) (ss : List Setting) (s : Setting) → fold set_by default_column (ss ++ cond b (s ∷ []) []) ≡ cond b (set_by (fold set_by default_column ss) s) (fold set_by default_column ss)
+own_push true ss s = fold_push set_by default_column ss s
+own_push false ss s = ap (fold set_by default_column) (append-nil ss)
 
-two : (l m u v : Option Setting) → l ≡ m → u ≡ v → column_with l u ≡ column_with m v
-two l m u v e f = λ i. column_with (e i) (f i)
-
-last_push : (sets : BoundKind → Bool) (ss : List Setting) (s : Setting) (c : Name) → last_setting sets (ss ++ s ∷ []) c ≡ later sets c (last_setting sets ss c) s
-last_push sets ss s c = fold_push (later sets c) None ss s
-
-unset : (b : Bool) (s : Setting) (o : Option Setting) → cond (b && false) (Some s) o ≡ o
-unset true s o = refl
-unset false s o = refl
-
--- a setting of another column changes nothing
-later_other : (sets : BoundKind → Bool) (c : Name) (o : Option Setting) (s : Setting) → bytes_eq c s.column ≡ false → later sets c o s ≡ o
-later_other sets c o s e = ap (λ (b : Bool). cond (sets s.kind && b) (Some s) o) e ∙ unset (sets s.kind) s o
+bounds_behind : (ss : List Setting) (s : Setting) (c : Name) → column_bounds (ss ++ s ∷ []) c ≡ cond (bytes_eq c s.column) (set_by (column_bounds ss c) s) (column_bounds ss c)
+bounds_behind ss s c =
+    ap (fold set_by default_column) (filter-append (λ (x : Setting). bytes_eq c x.column) ss (s ∷ [])) ∙ own_push (bytes_eq c s.column) (settings_of c ss) s
 
 other_same : (ss : List Setting) (s : Setting) (c : Name) → bytes_eq c s.column ≡ false → column_bounds (ss ++ s ∷ []) c ≡ column_bounds ss c
-other_same ss s c e = two _ (last_setting sets_lower ss c) _ (last_setting sets_upper ss c)
-    (last_push sets_lower ss s c ∙ later_other sets_lower c (last_setting sets_lower ss c) s e) (last_push sets_upper ss s c ∙ later_other sets_upper c (last_setting sets_upper ss c) s e)
+other_same ss s c e = bounds_behind ss s c ∙ ap (λ (b : Bool). cond b (set_by (column_bounds ss c) s) (column_bounds ss c)) e
 
-never : (b c : Bool) → ((b && false) && c) ≡ false
-never true c = refl
-never false c = refl
-
-not_fixed : (l : Option Setting) (s : Setting) → is_fx s.kind ≡ false → are_fixed l (Some s) ≡ false
-not_fixed None s e = refl
-not_fixed (Some l) s e = ap (λ (b : Bool). (is_fx l.kind && b) && eqb l.line s.line) e ∙ never (is_fx l.kind) (eqb l.line s.line)
-
-lower_alone : (s : Setting) (u : Option Setting) → is_fx s.kind ≡ false → are_fixed (Some s) u ≡ false
-lower_alone s None e = refl
-lower_alone s (Some u) e = ap (λ (b : Bool). (b && is_fx u.kind) && eqb s.line u.line) e
-
-abbrev setting : BoundKind → ℕ → Name → Fraction → Setting
-setting kind line column value = record { kind = kind; line = line; column = column; value = value }
-
-set_own : (kind : BoundKind) (line : ℕ) (c : Name) (v : Fraction) (l u : Option Setting)
-    → column_with (cond (sets_lower kind && true) (Some (setting kind line c v)) l) (cond (sets_upper kind && true) (Some (setting kind line c v)) u) ≡ set_by (setting kind line c v) (column_with l u)
-set_own Up line c v l u = λ i. record { lower = lower_bound l; upper = upper_bound (Some (setting Up line c v)); fixed = not_fixed l (setting Up line c v) refl i }
-set_own Lo line c v l u = λ i. record { lower = lower_bound (Some (setting Lo line c v)); upper = upper_bound u; fixed = lower_alone (setting Lo line c v) u refl i }
-set_own Fx line c v l u = λ i. record { lower = lower_bound (Some (setting Fx line c v)); upper = upper_bound (Some (setting Fx line c v)); fixed = eq-eqb line line refl i }
-set_own Fr line c v l u = refl
-set_own Mi line c v l u = λ i. record { lower = lower_bound (Some (setting Mi line c v)); upper = upper_bound u; fixed = lower_alone (setting Mi line c v) u refl i }
-set_own Pl line c v l u = λ i. record { lower = lower_bound l; upper = upper_bound (Some (setting Pl line c v)); fixed = not_fixed l (setting Pl line c v) refl i }
-
-later_own : (sets : BoundKind → Bool) (ss : List Setting) (s : Setting) → last_setting sets (ss ++ s ∷ []) s.column ≡ cond (sets s.kind && true) (Some s) (last_setting sets ss s.column)
-later_own sets ss s = last_push sets ss s s.column ∙ ap (λ (b : Bool). cond (sets s.kind && b) (Some s) (last_setting sets ss s.column)) (own_name s.column)
-
-own_same : (ss : List Setting) (s : Setting) → column_bounds (ss ++ s ∷ []) s.column ≡ set_by s (column_bounds ss s.column)
-own_same ss s =
-    two _ (cond (sets_lower s.kind && true) (Some s) (last_setting sets_lower ss s.column)) _ (cond (sets_upper s.kind && true) (Some s) (last_setting sets_upper ss s.column)) (later_own sets_lower ss s) (later_own sets_upper ss s)
-    ∙ set_own s.kind s.line s.column s.value (last_setting sets_lower ss s.column) (last_setting sets_upper ss s.column)
+own_same : (ss : List Setting) (s : Setting) → column_bounds (ss ++ s ∷ []) s.column ≡ set_by (column_bounds ss s.column) s
+own_same ss s = bounds_behind ss s s.column ∙ ap (λ (b : Bool). cond b (set_by (column_bounds ss s.column) s) (column_bounds ss s.column)) (own_name s.column)
 
 -- ---- names that stand once
 
@@ -135,18 +98,16 @@ named_mapped ss (n ∷ ns) c = named_by (bytes_eq c n) ss n ns c refl (named_map
 abbrev columns_of : Setting → Name
 columns_of s = s.column
 
--- a setting of no column of this name
-unnamed : (sets : BoundKind → Bool) (c : Name) (o : Option Setting) (ss : List Setting) → has (map columns_of ss) c ≡ false → fold (later sets c) o ss ≡ o
-unnamed sets c o [] e = refl
-unnamed sets c o (s ∷ ss) e =
+-- no setting is of a column of this name
+unnamed : (ss : List Setting) (c : Name) → has (map columns_of ss) c ≡ false → settings_of c ss ≡ []
+unnamed [] c e = refl
+unnamed (s ∷ ss) c e =
     let p = or_parts (bytes_eq c s.column) (has (map columns_of ss) c) e in
-    ap (λ (x : Option Setting). fold (later sets c) x ss) (later_other sets c o s p.0) ∙ unnamed sets c o ss p.1
+    ap (λ (b : Bool). cond b (s ∷ settings_of c ss) (settings_of c ss)) p.0 ∙ unnamed ss c p.1
 
 free_by : (b : Bool) (ss : List Setting) (c : Name) → has (bounded ss) c ≡ b → unwrap_or (cond b (Some (column_bounds ss c)) None) default_column ≡ column_bounds ss c
 free_by true ss c q = refl
-free_by false ss c q =
-    let none = not_by (has (map columns_of ss) c) (map columns_of ss) c refl q in
-    sym (two (last_setting sets_lower ss c) None (last_setting sets_upper ss c) None (unnamed sets_lower c None ss none) (unnamed sets_upper c None ss none))
+free_by false ss c q = sym (ap (fold set_by default_column) (unnamed ss c (not_by (has (map columns_of ss) c) (map columns_of ss) c refl q)))
 
 abbrev bounds_known : List Setting → List (Name × Column)
 bounds_known ss = map (bounds_of ss) (bounded ss)
@@ -199,8 +160,8 @@ bounded_push ss s = ap (fold add_name []) (map_push columns_of ss s) ∙ fold_pu
 setting_step : (ss : List Setting) (s : Setting) → with_setting (bounds_known ss) s ≡ bounds_known (ss ++ s ∷ [])
 setting_step ss s =
     let new = ss ++ s ∷ [] in
-    put_same ss new s.column (set_by s (bounds_with (bounds_known ss) s.column)) (bounded ss) (λ n q. sym (other_same ss s n (other_way s.column n q)))
-    (ap (set_by s) (bounds_same ss s.column) ∙ sym (own_same ss s)) (distinct_all [] (map columns_of ss) tt)
+    put_same ss new s.column (set_by (bounds_with (bounds_known ss) s.column) s) (bounded ss) (λ n q. sym (other_same ss s n (other_way s.column n q)))
+    (ap (λ (x : Column). set_by x s) (bounds_same ss s.column) ∙ sym (own_same ss s)) (distinct_all [] (map columns_of ss) tt)
     ∙ ap (map (bounds_of new)) (sym (bounded_push ss s))
 
 settings_step : (ss more : List Setting) → with_settings (bounds_known ss) more ≡ bounds_known (ss ++ more)

@@ -1,11 +1,6 @@
 pub mod Judging
-pub mod Keys
 pub mod GrowingBounds
 pub mod Growing
 pub mod Steps
 pub mod Reading
-pub mod Placed
-pub mod Counted
-pub mod Shapes
-pub mod Entered
 pub mod Walking

@@ -13,8 +13,10 @@ use Rattle.mps_pairs.specs.declared.sections.SectionState.{SectionState}
 use Rattle.decks.specs.Sections.{Open}
 use Rattle.decks.specs.Spelling.{size_of, deck_of}
 use Rattle.decks.specs.Faults.{Found, fault_of}
-use Rattle.decks.specs.Texts.{IsClean, Answer, answer, answer_from, judged, ends_deck, read_of, Refuses}
-use Rattle.mps_pairs.specs.Known.{section_state, next_section_state, Known, known, next_kind, next_known, deck_from, line_fault, TellsAt}
+use Rattle.decks.specs.Texts.{IsClean, Spells, Fails, FailsAs, ends_deck}
+use Rattle.decks.proofs.Relations.{Read, Answer, answer, answer_from, judged, read_of, given_spelled, given_fails}
+use Rattle.mps_pairs.specs.Known.{section_state, next_section_state, Known, known, next_kind, next_known, deck_from, line_fault}
+use Rattle.mps_pairs.specs.Answers.{TellsAt}
 use Rattle.decks.proofs.KeptSlices.{lines_right}
 use Rattle.mps_pairs.proofs.Steps.{section_state_push, fault_same, known_push, deck_same}
 
@@ -62,9 +64,6 @@ line_here text rest c k number r l o h = sym (fault_same r.before l (lines_right
 one_more : (before : List Line) (n : ℕ) (piece after rest : List ℕ) → pieces rest ≡ piece ∷ pieces after → answer_from before (lines_from n (pieces rest)) ≡ answer_from before (line_of n piece ∷ lines_from (n + 1) (pieces after))
 one_more before n piece after rest e = ap (λ (ps : List (List ℕ)). answer_from before (lines_from n ps)) e
 
-abbrev Read : Type 0
-Read = Deck × ℕ
-
 judge : (o p : Option Found) (a b : Bool) (d : Read) (later : Answer) → o ≡ p → a ≡ b → judged o a d later ≡ judged p b d later
 judge o p a b d later e f = λ i. judged (e i) (f i) d later
 
@@ -83,7 +82,7 @@ abbrev done : Deck → ℕ → Answer
 done d place = Ok (d, place)
 
 pub at_end : (text rest piece after : List ℕ) (c : SectionState) (k k2 : Known) (number : ℕ) → Reads text rest c k number → pieces rest ≡ piece ∷ pieces after → length piece + length after ≡ length rest
-    → line_fault c k (line_of number piece) ≡ None → k2 ≡ next_known c.current k (line_of number piece) → true ≡ ends_deck (line_of number piece).kind → answer text ≡ Ok (deck_from k2 number, length text - length after)
+    → line_fault c k (line_of number piece) ≡ None → k2 ≡ next_known c.current k (line_of number piece) → true ≡ ends_deck (line_of number piece).kind → Spells text (deck_from k2 number) (length text - length after)
 at_end text rest piece after c k k2 number r e parts h ek ends =
     let l = line_of number piece in
     let before = r.before in
@@ -91,9 +90,9 @@ at_end text rest piece after c k k2 number r e parts h ek ends =
     let place : size_of (before ++ l ∷ []) ≡ length text - length after = omega (arith, size_push before l, r.size_is, parts) in
     let same : known before ≡ k2 = sym r.known_is ∙ sym (ek ∙ ends_same c.current k number l.kind l.fields (sym ends)) in
     let deck : deck_of before number ≡ deck_from k2 number = sym (deck_same before number) ∙ ap (λ (x : Known). deck_from x number) same in
-    sym r.answer_is ∙ one_more before number piece after rest e
+    given_spelled text (deck_from k2 number, length text - length after) (sym r.answer_is ∙ one_more before number piece after rest e
     ∙ judge (fault_of before l) None (ends_deck l.kind) true (read_of before l) (answer_from (before ++ l ∷ []) (lines_from (number + 1) (pieces after))) f (sym ends)
-    ∙ (λ i. done (deck i) (place i))
+    ∙ (λ i. done (deck i) (place i)))
 
 pub goes_on : (text rest piece after : List ℕ) (c c2 : SectionState) (k k2 : Known) (number : ℕ) → Reads text rest c k number → pieces rest ≡ piece ∷ pieces after → length piece + length after ≡ length rest → 0 < length piece
     → line_fault c k (line_of number piece) ≡ None → c2 ≡ next_section_state c (line_of number piece).kind → k2 ≡ next_known c.current k (line_of number piece)
@@ -118,8 +117,8 @@ goes_on text rest piece after c c2 k k2 number r e parts some h ec ek ends =
       room = omega (arith, r.room, parts, some);
     }
 
-pub not_closed : (text rest : List ℕ) (c : SectionState) (k : Known) (number : ℕ) → Reads text rest c k number → length rest ≡ 0 → answer text ≡ Err (number, NotClosed)
-not_closed text [] c k number r h = sym r.answer_is ∙ ap (λ (n : ℕ). Err (n, NotClosed)) (sym r.number_is)
+pub not_closed : (text rest : List ℕ) (c : SectionState) (k : Known) (number : ℕ) → Reads text rest c k number → length rest ≡ 0 → Fails text number NotClosed
+not_closed text [] c k number r h = given_fails text number NotClosed (sym r.answer_is ∙ ap (λ (n : ℕ). Err (n, NotClosed)) (sym r.number_is))
 not_closed text (b ∷ bs) c k number r h = absurd (omega (arith, h))
 
 at_fault : (text rest piece after : List ℕ) (c : SectionState) (k : Known) (number : ℕ) (f : Found) → Reads text rest c k number → pieces rest ≡ piece ∷ pieces after
@@ -131,6 +130,6 @@ at_fault text rest piece after c k number f r e h =
 
 -- a line's fault is the text's
 pub refuses : (f : DeckFault) (text rest piece after : List ℕ) (c : SectionState) (k : Known) (number : ℕ) → Reads text rest c k number → pieces rest ≡ piece ∷ pieces after
-    → TellsAt f (line_fault c k (line_of number piece)) → Refuses f (answer text)
+    → TellsAt f (line_fault c k (line_of number piece)) → FailsAs f text
 refuses (NoMemory m) text rest piece after c k number r e h = tt
-refuses (At line w) text rest piece after c k number r e h = at_fault text rest piece after c k number (line, w) r e h
+refuses (At line w) text rest piece after c k number r e h = given_fails text line w (at_fault text rest piece after c k number (line, w) r e h)

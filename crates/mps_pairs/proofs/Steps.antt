@@ -23,7 +23,7 @@ use Rattle.decks.proofs.KeptEntries.{IsNamed}
 use Rattle.decks.proofs.KeptColumns.{columns_kept}
 use Rattle.decks.proofs.KeptSlices.{open_push, Slices, slices_of, next_slices, slices_grown, IsRight, LinesRight}
 use Rattle.mps_pairs.proofs.GrowingBounds.{bounds_same, below_same, bounds_push}
-use Rattle.mps_pairs.proofs.Growing.{rows_push, known_columns_push, line_whole, column_fault_same, set_and_givens_push, pairs_push}
+use Rattle.mps_pairs.proofs.Growing.{rows_push, known_columns_push, line_whole, column_fault_same, set_and_values_push, pairs_push}
 
 -- ---- the state
 
@@ -127,8 +127,8 @@ data_step (Some Columns) before l h e =
     (λ i. tables_of rs (cs ++ l ∷ []) hs gs bs (ep i))
     ∙ (λ i. record (tables_of rs cs hs gs bs []) { columns = step i })
     ∙ (λ i. with_data (Some Columns) (tables_of rs cs hs gs bs (sym ep i)) l.number l.fields)
-data_step (Some Rhs) before l h e = λ i. record (known before) { rights = set_and_givens_push (slice Rhs before) l i }
-data_step (Some Ranges) before l h e = λ i. record (known before) { ranges = set_and_givens_push (slice Ranges before) l i }
+data_step (Some Rhs) before l h e = λ i. record (known before) { rights = set_and_values_push (slice Rhs before) l i }
+data_step (Some Ranges) before l h e = λ i. record (known before) { ranges = set_and_values_push (slice Ranges before) l i }
 data_step (Some Bounds) before l h e = λ i. record (known before) { bounds = bounds_push (slice Bounds before) l i }
 data_step (Some Pairs) before l h e = λ i. record (known before) { pairs = pairs_push (rows_of (slice Rows before)) (column_names (slice Columns before)) (slice Pairs before) l i }
 data_step (Some Endata) before l h e = absurd cc

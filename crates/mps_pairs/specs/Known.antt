@@ -1,7 +1,6 @@
--- What the reader's tables know of the lines so far, and how a line adds to it.
-use Rattle.std.specs.Prelude.{◌≡◌, ℕ, ◌+◌, Bool, false, not, ◌||◌, if◌then◌else◌, List, [], ◌∷◌, ◌++◌, length, map, fold, Option, Some, None, Result, Ok, Err}
+-- What the reader knows of the lines so far, how a line adds to it, and which fault a line has by it.
+use Rattle.std.specs.Prelude.{ℕ, Bool, false, not, ◌||◌, List, [], ◌∷◌, ◌++◌, map, Option, Some, None}
 use Rattle.std.specs.List.{position_or_len}
-use Rattle.std.specs.Prelude.{unwrap_or}
 use Rattle.mps_lex.specs.Kinds.{Name}
 use Rattle.mps_lex.specs.Lines.{Line}
 use Rattle.mps_lex.specs.declared.line.Section.{Section}
@@ -10,21 +9,14 @@ use Rattle.mps_lex.specs.declared.line.LineKind.{LineKind}
 use Rattle.mps_lex.specs.declared.line.LineKind.TheVariants.{Blank, Comment, Head, LeftOut, Unknown, Entry}
 use Rattle.decks.specs.declared.fault.DeckWhy.{DeckWhy}
 use Rattle.decks.specs.declared.fault.DeckWhy.TheVariants.{SectionOrder, UnknownSection, LeftOutSection}
-use Rattle.mps_pairs.specs.declared.fault.Fault.{Fault}
-use Rattle.mps_pairs.specs.declared.fault.Fault.TheVariants as faults
-use Rattle.decks.specs.declared.fault.DeckFault.{DeckFault}
-use Rattle.decks.specs.declared.fault.DeckFault.TheVariants as deck_faults
 use Rattle.decks.specs.declared.deck.Deck.{Deck}
-use Rattle.decks.specs.declared.deck.Column.{Column}
-use Rattle.decks.specs.declared.deck.Entry as entries
 use Rattle.decks.specs.declared.deck.PairLine.{PairLine}
-use Rattle.mps_pairs.specs.declared.sections.SectionState.{SectionState}
-use Rattle.decks.specs.Decks.{zero}
-use Rattle.decks.specs.Names.{has, add_name, named, put}
 use Rattle.decks.specs.Sections.{Open, same_section, is_begun, open_behind, open_rank, slice, may_follow}
-use Rattle.decks.specs.Spelling.{field, is_n, RowLine, row_line, rows_of, kept, NamedEntry, entries_on, entries_in, column_names, rows_in, entry_of, deck_entries, Given, given_set, givens_on, givens_in, first_set, deck_row, pair_names, pair_of, deck_pairs}
-use Rattle.decks.specs.Bounds.{Setting, setting_on, settings_in, bound_set, sets_lower, sets_upper, is_fx, lower_by, upper_by, column_bounds, bounded, below_zero_line}
-use Rattle.decks.specs.Faults.{◌or◌, fault_if, row_fault, column_fault, givens_fault, bound_fault, pair_fault, Found, named_at, end_fault}
+use Rattle.decks.specs.Spelling.{field, is_n, RowLine, row_line, rows_of, kept, column_names, deck_row, pair_names, pair_of, deck_pairs}
+use Rattle.decks.specs.Bounds.{below_zero_line}
+use Rattle.decks.specs.Faults.{◌or◌, fault_if, row_fault, column_fault, row_values_fault, bound_fault, pair_fault, Found, named_at, end_fault}
+use Rattle.mps_tables.specs.Known.{KnownColumns, known_columns, rows_here, with_column, KnownRowValues, known_row_values, with_row_values, KnownBounds, known_bounds, bounds_with, with_bound}
+use Rattle.mps_pairs.specs.declared.sections.SectionState.{SectionState}
 
 -- ---- the order of heads
 
@@ -55,103 +47,6 @@ next_section_state c Entry = c
 
 abbrev pub section_order_fault : SectionState → Section → Option DeckWhy
 section_order_fault c t = fault_if (not (may_follow (open_rank c.current) (begun_by c t) t)) SectionOrder
-
--- ---- COLUMNS
-
--- the columns, the rows in which the last one has entries, how many entries there are, and those of the deck
-pub record KnownColumns : Type 0 where
-  pub names : List Name
-  pub here : List Name
-  pub count : ℕ
-  pub entries : List entries.Entry
-
-abbrev pub last_name : List Name → Name
-last_name [] = []
-last_name (n ∷ []) = n
-last_name (n ∷ m ∷ ns) = last_name (m ∷ ns)
-
-abbrev pub known_columns : List RowLine → List Line → KnownColumns
-known_columns rows ls = record {
-  names = column_names ls;
-  here = rows_in (last_name (column_names ls)) (entries_in ls);
-  count = length (entries_in ls);
-  entries = deck_entries rows (column_names ls) (entries_in ls);
-}
-
--- the rows in which a column has entries that is the last one, or new
-abbrev pub rows_here : KnownColumns → Name → List Name
-rows_here k c = if has k.names c then k.here else []
-
-abbrev pub with_name : KnownColumns → Name → KnownColumns
-with_name k c = record k { names = add_name k.names c; here = rows_here k c }
-
-abbrev pub with_entry : List RowLine → KnownColumns → NamedEntry → KnownColumns
-with_entry rows k e = record k { here = k.here ++ e.row ∷ []; count = k.count + 1; entries = k.entries ++ entry_of rows k.names e }
-
-abbrev pub with_entries : List RowLine → KnownColumns → List NamedEntry → KnownColumns
-with_entries rows k [] = k
-with_entries rows k (e ∷ es) = with_entries rows (with_entry rows k e) es
-
-abbrev pub with_column : List RowLine → KnownColumns → List Name → KnownColumns
-with_column rows k fs = with_entries rows (with_name k (field 0 fs)) (entries_on fs)
-
--- ---- RHS and RANGES
-
--- the set, and the rows with their values
-pub record KnownRowValues : Type 0 where
-  pub set : Option Name
-  pub givens : List Given
-
-abbrev pub known_row_values : List Line → KnownRowValues
-known_row_values ls = record { set = first_set given_set ls; givens = givens_in ls }
-
--- the first of the sets, if there is one
-abbrev pub set_or : Option Name → Name → Option Name
-set_or None t = Some t
-set_or (Some s) t = Some s
-
-abbrev pub with_set : KnownRowValues → Name → KnownRowValues
-with_set k t = record k { set = set_or k.set t }
-
-abbrev pub with_row_values : KnownRowValues → List Name → KnownRowValues
-with_row_values k fs = record { set = set_or k.set (given_set fs); givens = k.givens ++ givens_on fs }
-
--- ---- BOUNDS
-
--- the set, and the columns that lines name with their bounds
-pub record KnownBounds : Type 0 where
-  pub set : Option Name
-  pub columns : List (Name × Column)
-
-abbrev pub bounds_of : List Setting → Name → Name × Column
-bounds_of settings n = (n, column_bounds settings n)
-
-abbrev pub known_bounds : List Line → KnownBounds
-known_bounds ls = record { set = first_set bound_set ls; columns = map (bounds_of (settings_in ls)) (bounded (settings_in ls)) }
-
--- a column that no line names
-abbrev pub default_column : Column
-default_column = record { lower = record { value = Some zero; line = 0 }; upper = record { value = None; line = 0 }; fixed = false }
-
-abbrev pub bounds_with : List (Name × Column) → Name → Column
-bounds_with columns n = unwrap_or (named columns n) default_column
-
--- a column behind a line that names it
-abbrev pub set_by : Setting → Column → Column
-set_by s c = record {
-  lower = if sets_lower s.kind then record { value = lower_by s.kind s.value; line = s.line } else c.lower;
-  upper = if sets_upper s.kind then record { value = upper_by s.kind s.value; line = s.line } else c.upper;
-  fixed = is_fx s.kind;
-}
-
-abbrev pub with_setting : List (Name × Column) → Setting → List (Name × Column)
-with_setting columns s = put columns s.column (set_by s (bounds_with columns s.column))
-
-abbrev pub with_settings : List (Name × Column) → List Setting → List (Name × Column)
-with_settings columns ss = fold with_setting columns ss
-
-abbrev pub with_bound : KnownBounds → ℕ → List Name → KnownBounds
-with_bound k number fs = record { set = set_or k.set (bound_set fs); columns = with_settings k.columns (setting_on number fs) }
 
 -- ---- PAIRS
 
@@ -191,7 +86,7 @@ known ls = tables_of (slice section.Rows ls) (slice section.Columns ls) (slice s
 
 abbrev pub deck_from : Known → ℕ → Deck
 deck_from k end_line = record {
-  rows = map (deck_row k.rights.givens k.ranges.givens) (kept k.rows);
+  rows = map (deck_row k.rights.values k.ranges.values) (kept k.rows);
   objective = position_or_len (λ r. is_n r.letter) (kept k.rows);
   columns = map (bounds_with k.bounds.columns) k.columns.names;
   entries = k.columns.entries;
@@ -228,8 +123,8 @@ known_fault None k fs = Some SectionOrder
 known_fault (Some section.Name) k fs = Some SectionOrder
 known_fault (Some section.Rows) k fs = row_fault k.rows fs
 known_fault (Some section.Columns) k fs = column_fault k.rows k.columns.names (rows_here k.columns (field 0 fs)) k.columns.count fs
-known_fault (Some section.Rhs) k fs = givens_fault k.rows k.rights.set k.rights.givens fs
-known_fault (Some section.Ranges) k fs = givens_fault k.rows k.ranges.set k.ranges.givens fs
+known_fault (Some section.Rhs) k fs = row_values_fault k.rows k.rights.set k.rights.values fs
+known_fault (Some section.Ranges) k fs = row_values_fault k.rows k.ranges.set k.ranges.values fs
 known_fault (Some section.Bounds) k fs = bound_fault k.columns.names k.bounds.set fs
 known_fault (Some section.Pairs) k fs = pair_fault k.rows k.columns.names (bounds_with k.bounds.columns) k.pairs.names fs
 known_fault (Some section.Endata) k fs = Some SectionOrder
@@ -247,29 +142,3 @@ known_kind_fault c k number Entry fs = named_at number (known_fault c.current k 
 
 abbrev pub line_fault : SectionState → Known → Line → Option Found
 line_fault c k l = known_kind_fault c k l.number l.kind l.fields
-
--- ---- what a call says
-
--- where a check goes well there is no fault; else it names the fault
-abbrev pub Checks : {X : Type 0} → Result X DeckWhy → Option DeckWhy → Type 0
-Checks (Ok x) o = o ≡ None
-Checks (Err w) o = o ≡ Some w
-
--- a call's fault is the fault of a line, unless memory is short
-abbrev pub Tells : Fault → Option DeckWhy → Type 0
-Tells (faults.Memory) o = Unit {0}
-Tells (faults.Of w) o = o ≡ Some w
-
--- where a call goes well, there is no fault
-abbrev pub Judges : {X : Type 0} → Result X Fault → Option DeckWhy → Type 0
-Judges (Ok x) o = o ≡ None
-Judges (Err f) o = Tells f o
-
--- the same of a fault with its line
-abbrev pub TellsAt : DeckFault → Option Found → Type 0
-TellsAt (deck_faults.NoMemory e) o = Unit {0}
-TellsAt (deck_faults.At line w) o = o ≡ Some (line, w)
-
-abbrev pub JudgesAt : {X : Type 0} → Result X DeckFault → Option Found → Type 0
-JudgesAt (Ok x) o = o ≡ None
-JudgesAt (Err f) o = TellsAt f o

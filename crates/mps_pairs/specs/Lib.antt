@@ -1,3 +1,3 @@
 pub mod Known
-pub mod Seen
+pub mod Answers
 pub mod Fields

@@ -3,15 +3,8 @@
 #![tactic(auto)]
 
 mod after;
-mod bounds;
-mod columns;
-mod fault;
-mod names;
-mod numbers;
 mod pairs;
 mod read;
-mod row_values;
-mod rows;
 mod sections;
 mod tables;
 

@@ -3,19 +3,19 @@ ghost use Rattle.std.specs.Prelude.{◌≡◌, ◌≤◌, ◌∷◌, [], ◌++�
 ghost use Rattle.mps_lex.specs.Shown.{shown};
 ghost use Rattle.decks.specs.declared.deck.Quantity.TheVariants.{Col, Row};
 ghost use Rattle.decks.specs.Names.{has, place};
+ghost use Rattle.decks.specs.Numbers.{is_zero};
 ghost use Rattle.decks.specs.Spelling.{is_col, number_of_row, row_named, quantity_of};
 ghost use Rattle.decks.specs.Decks.{is_inequality};
 ghost use Rattle.decks.specs.Faults.{◌or◌, is_kind, is_free_from_zero, column_quantity_fault, row_quantity_fault, quantity_fault, pair_front_fault, quantities_fault, many_pairs_fault, pair_fault};
 ghost use Rattle.mps_pairs.specs.Fields.{pair_words};
-ghost use Rattle.mps_pairs.specs.Known.{bounds_with, known_pairs, with_pair, Checks, Judges};
+ghost use Rattle.mps_tables.specs.Known.{bounds_with};
+ghost use Rattle.mps_pairs.specs.Known.{known_pairs, with_pair};
+ghost use Rattle.mps_tables.specs.Answers.{Checks, Judges};
 
-use crate::bounds::BoundTable;
-use crate::fault::Fault;
-use crate::names::Names;
-use crate::numbers::is_zero;
-use crate::rows::RowTable;
 use decks::{Column, DeckWhy, Letter, PairLine, Quantity};
 use lp_base::{MOST_COLUMNS, MOST_PAIRS, Sequence};
+use lp_nums::Frac;
+use mps_tables::{BoundTable, Fault, Names, RowTable};
 use std::alloc::Global;
 use std::marker::Model;
 use std::mem::replace;
@@ -63,6 +63,16 @@ fn is_inequality(letter: Letter) -> bool
     match letter {
         Letter::L | Letter::G => true,
         Letter::N | Letter::E => false,
+    }
+}
+
+// Whether there is an end, and it is 0.
+fn is_zero(end: Option<Frac>) -> bool
+    ensures { result ≡ is_zero end }
+{
+    match end {
+        None => false,
+        Some(value) => value.num() == 0,
     }
 }
 
@@ -127,7 +137,7 @@ fn quantity<'a>(
 }
 
 // The two quantities of a pair.
-#[tactic(auto, using(crate::proofs::Judging::first_is, crate::proofs::Judging::then_is))]
+#[tactic(auto, using(mps_tables::proofs::Judging::first_is, mps_tables::proofs::Judging::then_is))]
 fn quantities<'a>(
     rows: &RowTable<'a>,
     columns: &Names<'a>,
@@ -188,7 +198,7 @@ impl<'a> PairTable<'a> {
     }
 
     // Judges the quantities of a pair, and adds it.
-    #[tactic(auto, using(crate::proofs::Judging::first_tells, crate::proofs::Judging::then_judges))]
+    #[tactic(auto, using(mps_tables::proofs::Judging::first_tells, mps_tables::proofs::Judging::then_judges))]
     fn parse_quantities(
         &mut self,
         rows: &RowTable<'a>,
@@ -205,7 +215,7 @@ impl<'a> PairTable<'a> {
         self.push(fields.name, pair)
     }
 
-    #[tactic(auto, using(crate::proofs::Judging::first_tells, crate::proofs::Judging::then_judges))]
+    #[tactic(auto, using(mps_tables::proofs::Judging::first_tells, mps_tables::proofs::Judging::then_judges))]
     fn parse_pair(
         &mut self,
         rows: &RowTable<'a>,

@@ -8,14 +8,17 @@ ghost use Rattle.decks.specs.declared.fault.DeckWhy.TheVariants.{LeftOutSection}
 ghost use Rattle.decks.specs.declared.fault.DeckFault.TheVariants.{At};
 ghost use Rattle.decks.specs.Decks.{IsDeck};
 ghost use Rattle.decks.specs.Faults.{◌or◌, named_at};
-ghost use Rattle.decks.specs.Texts.{Spells, Fails, FailsAs, ends_deck, answer, Refuses, Gives};
-ghost use Rattle.mps_pairs.specs.Known.{Tells, TellsAt, JudgesAt, known, section_state, begin, next_section_state, section_order_fault, known_fault, known_end_fault, line_fault, with_data, next_known, deck_from};
+ghost use Rattle.decks.specs.Texts.{Spells, Fails, FailsAs, ends_deck, found_by};
+ghost use Rattle.lp_base.specs.Answers.{Gives, Refuses};
+ghost use Rattle.mps_tables.specs.Answers.{Tells};
+ghost use Rattle.mps_pairs.specs.Known.{known, section_state, begin, next_section_state, section_order_fault, known_fault, known_end_fault, line_fault, with_data, next_known, deck_from};
+ghost use Rattle.mps_pairs.specs.Answers.{TellsAt, JudgesAt};
 
-use crate::fault::Fault;
 use crate::sections::SectionState;
 use crate::tables::Tables;
 use decks::{Deck, DeckFault, DeckWhy};
 use mps_lex::{LineKind, Section, SplitLine, first_piece, line_of};
+use mps_tables::Fault;
 use std::alloc::{AllocError, Global};
 
 // The fault at a line.
@@ -166,9 +169,9 @@ fn read_lines<'a>(
     requires room { length text.now < 2 ^ 32 - 1 }
     requires state { state.old ≡ section_state [] }
     requires tables { tables.old ≡ known [] }
-    ensures deck { IfOk result (λ r. answer text.now ≡ Ok (deck_from tables.new r.0, r.1)) }
+    ensures spelled { IfOk result (λ r. Spells text.now (deck_from tables.new r.0) r.1) }
     ensures within { IfOk result (λ r. r.1 ≤ length text.now) }
-    ensures fault { IfErr result (λ f. Refuses f (answer text.now)) }
+    ensures fails { IfErr result (λ f. FailsAs f text.now) }
 {
     let mut rest = text;
     let mut number: u32 = 1;
@@ -188,19 +191,25 @@ fn read_lines<'a>(
     })
 }
 
-fn answer(alloc: Global, text: &[u8]) -> Result<(Deck, usize), DeckFault>
-    requires { length text.now < 2 ^ 32 - 1 }
-    ensures gives { Gives result (answer text.now) }
+// The deck of the lines up to ENDATA, and the place behind them. The tables are dropped by the
+// caller, at its one end.
+fn deck_of<'a>(
+    alloc: Global,
+    state: &mut SectionState,
+    tables: &mut Tables<'a>,
+    text: &'a [u8],
+) -> Result<(Deck, usize), DeckFault>
+    requires room { length text.now < 2 ^ 32 - 1 }
+    requires state { state.old ≡ section_state [] }
+    requires tables { tables.old ≡ known [] }
+    ensures spelled { IfOk result (λ r. Spells text.now r.0 r.1) }
     ensures within { IfOk result (λ r. r.1 ≤ length text.now) }
+    ensures fails { IfErr result (λ f. FailsAs f text.now) }
 {
-    let mut state = SectionState::new();
-    let mut tables = Tables::new(alloc);
-    match read_lines(alloc, &mut state, &mut tables, text) {
-        Err(fault) => Err(fault),
-        Ok((end_line, place)) => match tables.take_deck(alloc, end_line) {
-            Ok(deck) => Ok((deck, place)),
-            Err(error) => Err(DeckFault::NoMemory(error)),
-        },
+    let (end_line, place) = read_lines(alloc, state, tables, text)?;
+    match tables.take_deck(alloc, end_line) {
+        Ok(deck) => Ok((deck, place)),
+        Err(error) => Err(DeckFault::NoMemory(error)),
     }
 }
 
@@ -215,11 +224,13 @@ pub fn read_deck(alloc: Global, text: &[u8]) -> Result<(Deck, usize), DeckFault>
     // The place is in the text, or behind its last byte.
     ensures within { IfOk result (λ r. r.1 ≤ length text.now) }
     // A text that spells a deck is read, unless memory is short.
-    ensures only { (d : spelled.Deck) (place : ℕ) → Spells text.now d place → Gives result (Ok (d, place)) }
+    ensures only { (d : spelled.Deck) (place : ℕ) → Spells text.now d place → Gives found_by (d, place) result }
     // The fault is that of the first line with one, and it is named at its line.
     ensures fails { IfErr result (λ f. FailsAs f text.now) }
     // A text with a fault is refused with its first one, unless memory is short.
-    ensures only_fails { (line : ℕ) (w : why.DeckWhy) → Fails text.now line w → Gives result (Err (line, w)) }
+    ensures only_fails { (line : ℕ) (w : why.DeckWhy) → Fails text.now line w → Refuses found_by (line, w) result }
 {
-    answer(alloc, text)
+    let mut state = SectionState::new();
+    let mut tables = Tables::new(alloc);
+    deck_of(alloc, &mut state, &mut tables, text)
 }

@@ -1,7 +1,8 @@
 //! The order of sections.
 ghost use Rattle.std.specs.Prelude.{◌≡◌, ◌||◌, Some, None, false};
 ghost use Rattle.decks.specs.Sections.{section_number, same_section, rank, open_rank, may_follow};
-ghost use Rattle.mps_pairs.specs.Known.{begin, begun_by, section_order_fault, Checks};
+ghost use Rattle.mps_tables.specs.Answers.{Checks};
+ghost use Rattle.mps_pairs.specs.Known.{begin, begun_by, section_order_fault};
 ghost use Rattle.mps_pairs.specs.declared.sections.SectionState as known;
 
 use decks::DeckWhy;

@@ -1,26 +1,23 @@
 //! The reader's tables.
-ghost use Rattle.std.specs.Prelude.{◌≡◌, ◌≤◌, ◌∷◌, ◌++◌, if◌then◌else◌, OnOk, IfOk, None, [], map, length, position, unwrap_or};
+ghost use Rattle.std.specs.Prelude.{◌≡◌, ◌≤◌, ◌+◌, ◌∷◌, ◌++◌, if◌then◌else◌, OnOk, IfOk, None, [], map, length, position, unwrap_or};
 ghost use Rattle.std.specs.List.{position_or_len};
 ghost use Rattle.mps_lex.specs.Shown.{shown};
 ghost use Rattle.decks.specs.Spelling.{is_n, has_objective, kept, deck_row};
-ghost use Rattle.mps_pairs.specs.Known.{known, known_fault, bounds_with, with_bound, with_pair, with_data, deck_from, Judges};
+ghost use Rattle.mps_tables.specs.Known.{bounds_with, with_bound};
+ghost use Rattle.mps_tables.specs.Answers.{Judges};
+ghost use Rattle.mps_pairs.specs.Known.{known, known_fault, with_pair, with_data, deck_from};
 ghost use Rattle.decks.specs.Bounds.{below_zero_line};
 ghost use Rattle.decks.specs.Faults.{bound_fault, pair_fault};
-ghost use Rattle.mps_pairs.specs.Seen.{seen_row};
+ghost use Rattle.mps_tables.specs.Seen.{seen_row};
 ghost use Rattle.decks.specs.Names.{named};
 ghost use Rattle.decks.specs.Decks.{zero};
 
-use crate::bounds::BoundTable;
-use crate::columns::ColumnTable;
-use crate::fault::Fault;
-use crate::names::Names;
 use crate::pairs::PairTable;
-use crate::row_values::RowValueTable;
-use crate::rows::{RowState, RowTable, is_n};
 use decks::{Column, Deck, DeckWhy, Letter, Row};
-use lp_base::Sequence;
+use lp_base::{MOST_ROWS, Sequence};
 use lp_nums::Frac;
 use mps_lex::Section;
+use mps_tables::{BoundTable, ColumnTable, Fault, Names, RowState, RowTable, RowValueTable, is_n};
 use std::alloc::{AllocError, Global};
 use std::marker::Model;
 
@@ -45,7 +42,7 @@ impl<'a> Model for Tables<'a> {
 
 // The right-hand side of a row, or 0.
 fn right_of<'a>(rights: &RowValueTable<'a>, name: &'a [u8]) -> Frac
-    ensures { result ≡ unwrap_or (named rights.now.givens name.now) zero }
+    ensures { result ≡ unwrap_or (named rights.now.values name.now) zero }
 {
     match rights.value(name) {
         Some(value) => value,
@@ -55,7 +52,7 @@ fn right_of<'a>(rights: &RowValueTable<'a>, name: &'a [u8]) -> Frac
 
 // The range of a row, if it has one.
 fn range_of<'a>(ranges: &RowValueTable<'a>, name: &'a [u8], letter: Letter) -> Option<Frac>
-    ensures { result ≡ (if is_n letter then None else named ranges.now.givens name.now) }
+    ensures { result ≡ (if is_n letter then None else named ranges.now.values name.now) }
 {
     if is_n(letter) {
         return None;
@@ -71,7 +68,7 @@ fn add_row<'a>(
     name: &'a [u8],
     row: RowState,
 ) -> Result<(), AllocError>
-    ensures { OnOk result (found.new ≡ found.old ++ map (deck_row rights.now.givens ranges.now.givens) (kept (seen_row (name.now, row) ∷ []))) }
+    ensures { OnOk result (found.new ≡ found.old ++ map (deck_row rights.now.values ranges.now.values) (kept (seen_row (name.now, row) ∷ []))) }
 {
     if row.number.is_some() {
         let rhs = right_of(rights, name);
@@ -92,8 +89,8 @@ fn deck_rows<'a>(
     rights: &RowValueTable<'a>,
     ranges: &RowValueTable<'a>,
 ) -> Result<Sequence<Row>, AllocError>
-    ensures rows { IfOk result (λ found. found ≡ map (deck_row rights.now.givens ranges.now.givens) (kept rows.now)) }
-    ensures few { IfOk result (λ found. length found ≤ 2001) }
+    ensures rows { IfOk result (λ found. found ≡ map (deck_row rights.now.values ranges.now.values) (kept rows.now)) }
+    ensures few { IfOk result (λ found. length found ≤ MOST_ROWS + 1) }
 {
     let mut found = Sequence::new(alloc);
     for index in 0..rows.len() {

@@ -1,8 +1,9 @@
 use Rattle.std.proofs.Common.{sym, ap, ◌∙◌, ◌++◌, ◌∷◌, [], rules}
 use Rattle.decks.specs.declared.deck.Column.{Column}
 use Rattle.mps_lex.specs.Shown.{shown}
-use Rattle.mps_pairs.specs.Known.{bounds_with}
-use Rattle.mps_pairs.proofs.Walking.{column_more, untold}
+use Rattle.mps_tables.specs.Known.{bounds_with}
+use Rattle.mps_tables.proofs.Walking.{untold}
+use Rattle.mps_pairs.proofs.Walking.{column_more}
 use Rattle.mps_pairs.proofs.tables.deck_columns.Goals as goal
 use Rattle.mps_pairs.proofs.tables.deck_columns.Goals.{in-Some+in_ok-push, in_default}
 

@@ -1,5 +1,5 @@
 use Rattle.std.proofs.Common.{◌≡◌, map, take}
-use Rattle.mps_pairs.specs.Known.{bounds_with}
+use Rattle.mps_tables.specs.Known.{bounds_with}
 use Rattle.mps_pairs.proofs.tables.deck_columns.Given as goal
 
 abbrev pub invariant-loop-index : goal.invariant-loop-index

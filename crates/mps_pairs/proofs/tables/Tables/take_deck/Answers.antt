@@ -3,7 +3,8 @@ use Rattle.std.specs.List.{position_or_len}
 use Rattle.mps_lex.specs.Kinds.{Name}
 use Rattle.decks.specs.declared.deck.Row.{Row}
 use Rattle.decks.specs.Spelling.{is_n}
-use Rattle.mps_pairs.specs.Known.{Known, bounds_with}
+use Rattle.mps_tables.specs.Known.{bounds_with}
+use Rattle.mps_pairs.specs.Known.{Known}
 use Rattle.mps_pairs.proofs.Walking.{deck_taken}
 use Rattle.mps_pairs.proofs.tables.Tables.take_deck.Goals as goal
 

@@ -1,6 +1,0 @@
-use Rattle.std.proofs.Common.{arith}
-use Rattle.mps_pairs.proofs.Placed.{place_small}
-use Rattle.mps_pairs.proofs.columns.ColumnTable.add_one.Goals as goal
-
-pub overflow_cast-index : goal.overflow_cast-index
-overflow_cast-index c = omega (arith, c.requires.index, place_small c.args.self.now.names c.args.column.now c.requires.few)

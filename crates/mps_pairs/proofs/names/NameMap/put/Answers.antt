@@ -1,7 +1,0 @@
-use Rattle.std.proofs.Common.{map, ap, ◌∙◌}
-use Rattle.mps_pairs.specs.Seen.{shown_entry}
-use Rattle.mps_pairs.proofs.Keys.{put_shown}
-use Rattle.mps_pairs.proofs.names.NameMap.put.Goals as goal
-
-pub returns-clause-ok : goal.returns-clause-ok
-returns-clause-ok g c = rw (← c.self.view_is) (ap (map shown_entry) c.in_ok-insert.ensures.entries ∙ put_shown c.args.name c.args.value c.self.inside.held.entries)
