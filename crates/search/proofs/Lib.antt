@@ -4,7 +4,7 @@ pub mod Moments
 pub mod Resolving
 pub mod GrowthLaws
 pub mod ChosenLaws
+pub mod Concluding
 pub mod Steps
 pub mod Endings
 pub mod Sets
-pub mod PieceOrder

@@ -4,4 +4,3 @@ pub mod Walks
 pub mod Chosen
 pub mod Progress
 pub mod Kept
-pub mod PieceSets

@@ -14,13 +14,13 @@ ghost use Rattle.search.specs.declared.walk.Reason.TheVariants as because;
 ghost use Rattle.search.specs.declared.walk.Phase.TheVariants as phase;
 
 use crate::index::Index;
-use crate::piece_set::PieceSet;
-use crate::resolve::learn;
+use crate::refutation::conclude;
 use crate::walk::{Phase, Reason, Resolvent, Walk, whole};
 use derivation::Log;
 use lp_base::Sequence;
 use lpcc_case::MOST_PAIRS;
 use nogoods::{Piece, Side};
+use piece_sets::PieceSet;
 use std::alloc::{AllocError, Global};
 
 /// What a search finds.
@@ -126,7 +126,7 @@ fn at_resolved(
 {
     let count = walk.sides.len();
     if count == 0 {
-        learn(alloc, log, index, pairs, walk.sides.as_slice(), resolvent)?;
+        conclude(alloc, log, pairs, resolvent.hints)?;
         return Ok(Progress::End(Found::Refuted));
     }
     let next = walk.back_resolved(

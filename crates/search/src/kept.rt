@@ -12,12 +12,12 @@ ghost use Rattle.search.specs.Walks.{AllExhausted};
 
 use crate::found::{Found, next_in, run};
 use crate::index::Index;
-use crate::piece_set::PieceSet;
 use crate::prefix::barring;
 use crate::walk::Walk;
 use derivation::Log;
 use lpcc_case::MOST_PAIRS;
 use nogoods::Piece;
+use piece_sets::PieceSet;
 use std::alloc::{AllocError, Global};
 
 /// A walk that is kept between searches, beside its log. After an error it is of no more use:

@@ -4,11 +4,13 @@
 mod found;
 mod index;
 mod kept;
-mod piece_set;
+mod plan;
 mod prefix;
+mod propagation;
+mod refutation;
 mod resolve;
 mod walk;
 
 pub use found::{Found, next, same_pieces_are_found};
 pub use kept::{Search, search_outlives_additions};
-pub use piece_set::PieceSet;
+pub use piece_sets::PieceSet;

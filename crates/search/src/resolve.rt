@@ -31,7 +31,7 @@ fn mark_pair(marks: &mut Vec<bool>, choice: Choice)
 }
 
 /// Marks the pairs of the choices.
-fn mark(marks: &mut Vec<bool>, choices: &[Choice])
+pub(crate) fn mark(marks: &mut Vec<bool>, choices: &[Choice])
     ensures marked { All (IsMarked marks.new.items) choices.now }
     ensures kept { StaysMarked marks.old.items marks.new.items }
 {
@@ -139,7 +139,7 @@ pub(crate) fn resolve_more(
     Ok(Resolvent { marks, hints })
 }
 
-fn no_good(alloc: Global, list: &[Choice]) -> Result<NoGood, AllocError>
+pub(crate) fn no_good(alloc: Global, list: &[Choice]) -> Result<NoGood, AllocError>
     requires { pairs_ascend list.now ≡ true }
     ensures { IfOk result (λ made. made ≡ list.now) }
 {
@@ -150,7 +150,12 @@ fn no_good(alloc: Global, list: &[Choice]) -> Result<NoGood, AllocError>
 }
 
 /// Adds a step that follows.
-fn add(log: &mut Log, pairs: u32, ng: NoGood, hints: Sequence<u64>) -> Result<(), AllocError>
+pub(crate) fn add(
+    log: &mut Log,
+    pairs: u32,
+    ng: NoGood,
+    hints: Sequence<u64>,
+) -> Result<(), AllocError>
     requires named { All (NamesBelow pairs) (no_goods log.old) }
     requires below { NamesBelow pairs ng }
     requires closed { closes (no_goods log.old) ng hints ≡ true }

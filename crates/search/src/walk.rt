@@ -11,12 +11,12 @@ ghost use Rattle.search.specs.declared.walk.Reason.TheVariants as because;
 ghost use Rattle.search.specs.declared.walk.Phase.TheVariants as phase;
 
 use crate::index::Index;
-use crate::piece_set::PieceSet;
 use crate::prefix::{barring, choices_of, find};
 use crate::resolve::{learn, resolve, resolve_more};
 use derivation::Log;
 use lpcc_case::MOST_PAIRS;
 use nogoods::{Choice, Side};
+use piece_sets::PieceSet;
 use std::alloc::{AllocError, Global};
 
 /// Why sides are exhausted: by a step, or since pieces are blocked.

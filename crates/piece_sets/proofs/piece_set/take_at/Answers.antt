@@ -1,6 +1,6 @@
 use Rattle.std.proofs.Common.{arith}
-use Rattle.search.proofs.PieceOrder.{Removes, removed_has, removed_rises}
-use Rattle.search.proofs.piece_set.take_at.Goals as goal
+use Rattle.piece_sets.proofs.PieceOrder.{Removes, removed_has, removed_rises}
+use Rattle.piece_sets.proofs.piece_set.take_at.Goals as goal
 
 pub returns-clause-ascending : goal.returns-clause-ascending
 returns-clause-ascending c =

@@ -1,6 +1,6 @@
 use Rattle.std.proofs.Common.{ℕ, ◌-◌, ◌<◌, ◌≤◌, ◌≡◌, true, false, [], length, get_or}
 use Rattle.nogoods.specs.Pieces.{precedes}
-use Rattle.search.proofs.piece_set.place_of.Given as goal
+use Rattle.piece_sets.proofs.piece_set.place_of.Given as goal
 
 abbrev pub invariant-loop-low : goal.invariant-loop-low
 invariant-loop-low l = record {

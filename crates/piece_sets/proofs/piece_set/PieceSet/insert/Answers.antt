@@ -1,7 +1,7 @@
 use Rattle.std.proofs.Common.{List, subst, ◌≡◌}
 use Rattle.std.specs.Prelude.{Contains, OnOk, ◌⊎◌, ◌↔◌}
 use Rattle.nogoods.specs.declared.choice.Side.{Side}
-use Rattle.search.proofs.piece_set.PieceSet.insert.Goals as goal
+use Rattle.piece_sets.proofs.piece_set.PieceSet.insert.Goals as goal
 
 pub returns-clause-ok : goal.returns-clause-ok
 returns-clause-ok c =

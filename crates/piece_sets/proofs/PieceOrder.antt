@@ -9,7 +9,7 @@ use Rattle.nogoods.specs.declared.choice.Side.{Side}
 use Rattle.nogoods.specs.declared.choice.Side.TheVariants.{A, B}
 use Rattle.nogoods.specs.Pieces.{precedes}
 use Rattle.nogoods.proofs.Order.{precedes-self, precedes-trans}
-use Rattle.search.specs.PieceSets.{IsAscending, IsPlace}
+use Rattle.piece_sets.specs.PieceSets.{IsAscending, IsPlace}
 
 pub later : (a b : List Side) → precedes a b ≡ false → ¬ (a ≡ b) → precedes b a ≡ true
 later [] [] e apart = absurd (apart refl)

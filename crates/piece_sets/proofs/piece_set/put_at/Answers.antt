@@ -1,5 +1,5 @@
-use Rattle.search.proofs.PieceOrder.{inserts_of, inserted_has, inserted_rises}
-use Rattle.search.proofs.piece_set.put_at.Goals as goal
+use Rattle.piece_sets.proofs.PieceOrder.{inserts_of, inserted_has, inserted_rises}
+use Rattle.piece_sets.proofs.piece_set.put_at.Goals as goal
 
 pub returns-in-Ok-clause-ascending : goal.returns-in-Ok-clause-ascending
 returns-in-Ok-clause-ascending c =

@@ -2,9 +2,9 @@ use Rattle.std.proofs.Common.{List, subst, sym, ◌∙◌, ◌≡◌}
 use Rattle.std.specs.Prelude.{Contains, ◌↔◌}
 use Rattle.std.proofs.lemmas.Bool.{false≢true}
 use Rattle.nogoods.specs.declared.choice.Side.{Side}
-use Rattle.search.specs.PieceSets.{IsPlace}
-use Rattle.search.proofs.PieceOrder.{found_in, taken_out, not_there}
-use Rattle.search.proofs.piece_set.PieceSet.remove.Goals as goal
+use Rattle.piece_sets.specs.PieceSets.{IsPlace}
+use Rattle.piece_sets.proofs.PieceOrder.{found_in, taken_out, not_there}
+use Rattle.piece_sets.proofs.piece_set.PieceSet.remove.Goals as goal
 
 pub returns-then-is_at : goal.returns-then-is_at
 returns-then-is_at c =

@@ -1,8 +1,8 @@
 use Rattle.std.proofs.Common.{List, subst}
 use Rattle.std.specs.Prelude.{Contains, IsTrue, ◌↔◌}
 use Rattle.nogoods.specs.declared.choice.Side.{Side}
-use Rattle.search.proofs.PieceOrder.{found_in}
-use Rattle.search.proofs.piece_set.PieceSet.has.Goals as goal
+use Rattle.piece_sets.proofs.PieceOrder.{found_in}
+use Rattle.piece_sets.proofs.piece_set.PieceSet.has.Goals as goal
 
 pub returns : goal.returns
 returns c =

@@ -5,7 +5,7 @@ use Rattle.std.proofs.lemmas.Slice.Eq.{slice_eq-Decides}
 use Rattle.nogoods.specs.declared.choice.Side.{Side}
 use Rattle.nogoods.specs.declared.choice.Side.TheVariants.{A, B}
 use Rattle.nogoods.specs.contracts.choice.SidePartialEq.TheImpl as sides
-use Rattle.search.proofs.piece_set.are_sides.Goals as goal
+use Rattle.piece_sets.proofs.piece_set.are_sides.Goals as goal
 
 decided : (a b : Side) → Decides (sides.eq-value.it a b) (a ≡ b)
 decided A A = (λ h. refl, λ h. refl)

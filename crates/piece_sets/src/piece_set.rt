@@ -2,7 +2,7 @@
 ghost use Rattle.std.specs.Prelude.{◌≡◌, ◌<◌, ◌≤◌, ◌↔◌, ◌⊎◌, ℕ, [], List, Contains, IfErr, IsTrue, OnErr, OnOk, length, slice_index_or};
 ghost use Rattle.nogoods.specs.declared.choice.Side.{Side as Member};
 ghost use Rattle.nogoods.specs.Pieces.{precedes};
-ghost use Rattle.search.specs.PieceSets.{IsAscending, IsPlace};
+ghost use Rattle.piece_sets.specs.PieceSets.{IsAscending, IsPlace};
 
 use nogoods::{Piece, Side};
 use std::alloc::Global;
@@ -17,7 +17,7 @@ pub struct PieceSet {
 impl Model for PieceSet {
     ghost use Rattle.std.specs.Prelude.{List};
     ghost use Rattle.nogoods.specs.declared.choice.Side.{Side};
-    ghost use Rattle.search.specs.PieceSets.{IsAscending};
+    ghost use Rattle.piece_sets.specs.PieceSets.{IsAscending};
 
     ghost Value = { List (List Side) };
 

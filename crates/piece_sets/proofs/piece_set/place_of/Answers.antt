@@ -1,6 +1,6 @@
 use Rattle.std.proofs.Common.{ℕ, ◌+◌, ◌-◌, ◌/◌, ◌<◌, ◌∙◌, sym, arith}
-use Rattle.search.proofs.PieceOrder.{lower_half, upper_half}
-use Rattle.search.proofs.piece_set.place_of.Goals as goal
+use Rattle.piece_sets.proofs.PieceOrder.{lower_half, upper_half}
+use Rattle.piece_sets.proofs.piece_set.place_of.Goals as goal
 
 pub loop-low-preserved-then-stands_before : goal.loop-low-preserved-then-stands_before
 loop-low-preserved-then-stands_before c =
