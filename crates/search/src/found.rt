@@ -246,13 +246,6 @@ pub(crate) fn next_in(
     Ok(found_of(ended))
 }
 
-/// An equal piece.
-fn copy_of(alloc: Global, piece: &Piece) -> Result<Piece, AllocError>
-    ensures { IfOk result (λ made. made ≡ piece.now) }
-{
-    piece_of(alloc, piece.sides())
-}
-
 fn put(set: &mut PieceSet, piece: Piece) -> Result<(), AllocError>
     ensures { OnOk result ((p : List Member) → Contains set.new p ↔ ((p ≡ piece) ⊎ Contains set.old p)) }
 {
@@ -268,7 +261,7 @@ fn set_of(alloc: Global, pieces: &[Piece]) -> Result<PieceSet, AllocError>
 {
     let mut made = PieceSet::create(alloc);
     for piece in pieces {
-        put(&mut made, copy_of(alloc, piece)?)?;
+        put(&mut made, piece.copy(alloc)?)?;
     }
     Ok(made)
 }

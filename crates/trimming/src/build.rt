@@ -8,17 +8,7 @@ ghost use Rattle.trimming.specs.Trimmed.{AreReached, IsTrimmed, kept_steps, step
 use crate::reach::reached_steps;
 use derivation::{Log, Step};
 use lp_base::Sequence;
-use nogoods::NoGood;
 use std::alloc::{AllocError, Global};
-
-fn copy_of(alloc: Global, ng: &NoGood) -> Result<NoGood, AllocError>
-    ensures { IfOk result (λ made. made ≡ ng.now) }
-{
-    match NoGood::from_choices(alloc, ng.choices())? {
-        Some(made) => Ok(made),
-        None => Err(AllocError),
-    }
-}
 
 fn number_at(numbers: &[u64], hint: u64) -> u64
     ensures { result ≡ slice_index_or numbers.now hint 0 }
@@ -53,9 +43,9 @@ fn add(
     ensures { OnOk result (made.new ≡ made.old ++ with_hints (λ h. slice_index_or numbers.now h 0) (step_at log.now at) ∷ []) }
 {
     match &log.steps()[at] {
-        Step::Start(ng) => made.start(copy_of(alloc, ng)?),
+        Step::Start(ng) => made.start(ng.copy(alloc)?),
         Step::Derived(ng, hints) => {
-            let ng = copy_of(alloc, ng)?;
+            let ng = ng.copy(alloc)?;
             let hints = renumbered(alloc, numbers, hints.as_slice())?;
             made.derive(ng, hints)
         }
