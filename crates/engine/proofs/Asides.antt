@@ -1,13 +1,11 @@
 -- Each piece that a record sets aside has a walk with that end.
-use Rattle.std.proofs.Common.{inl, inr, ℕ, ◌+◌, ◌≤◌, ◌≡◌, refl, sym, ap, ◌∙◌, subst, List, [], ◌∷◌, ◌++◌, length}
-use Rattle.std.specs.Prelude.{◌⊎◌, All, Contains, Option, Some, None}
+use Rattle.std.proofs.Common.{inl, inr, ℕ, ◌≡◌, refl, sym, ◌∙◌, subst, List, [], ◌∷◌}
+use Rattle.std.specs.Prelude.{All, Contains, Option, Some, None}
 use Rattle.std.proofs.lemmas.List.Elements.{All-nil, All-push, All-contains}
 use Rattle.nogoods.specs.declared.choice.Side.{Side}
 use Rattle.lpcc_case.specs.Instance.{Instance}
 use Rattle.lpcc_case.specs.Cases.{IsCase}
-use Rattle.orders.specs.Counts.{choose}
 use Rattle.walks.proofs.Walks.{large_budget_is_not_spent}
-use Rattle.play.specs.declared.event.Aside.{Aside}
 use Rattle.play.specs.declared.event.Event.{Event}
 use Rattle.play.specs.declared.event.Event.TheVariants.{Publish, Read, Offer, Draw, Absorb, Learn, Settle, Conclude}
 use Rattle.play.specs.declared.event.Options.{Options}

@@ -1,5 +1,5 @@
 -- What the ending of a record says.
-use Rattle.std.proofs.Common.{inl, inr, ℕ, ◌+◌, ◌≤◌, ◌^◌, ◌≡◌, refl, sym, ap, ◌∙◌, subst, arith, List, length}
+use Rattle.std.proofs.Common.{inl, inr, ℕ, ◌≡◌, sym, ◌∙◌, subst, List, length}
 use Rattle.std.specs.Prelude.{◌⊎◌, Some, None, Option}
 use Rattle.nogoods.specs.declared.choice.Side.{Side}
 use Rattle.lpcc_case.specs.Instance.{Instance}
@@ -20,7 +20,7 @@ use Rattle.play.specs.declared.ending.Ending.{Ending}
 use Rattle.play.specs.declared.ending.Ending.TheVariants as ending
 use Rattle.play.specs.Parts.{Part}
 use Rattle.play.specs.Steps.{drawn_in}
-use Rattle.play.specs.Truth.{AreDistinct, IsTrueToBest, Says}
+use Rattle.play.specs.Truth.{AreDistinct, Says}
 use Rattle.play.specs.Certificates.{IsCertOf}
 use Rattle.play.specs.Endings.{IsEnding}
 use Rattle.play.proofs.Draws.{carried_standing, pieces_last}

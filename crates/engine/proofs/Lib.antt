@@ -1,4 +1,3 @@
 pub mod Endings
 pub mod Asides
-pub mod Outcomes
 pub mod Turns

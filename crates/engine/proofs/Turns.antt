@@ -1,28 +1,24 @@
 -- What a draw and a settlement leave on the desk of one worker.
-use Rattle.std.proofs.Common.{inl, inr, ℕ, ◌+◌, ◌-◌, ◌<◌, ◌≡◌, refl, sym, ap, ◌∙◌, subst, arith, Bool, true, false, nat_eq, List, [], ◌∷◌, ◌++◌, length}
-use Rattle.std.specs.Prelude.{◌≢◌, Result, Ok, Err, IfOk, All, Option, Some, None, if◌then◌else◌}
+use Rattle.std.proofs.Common.{ℕ, ◌+◌, ◌-◌, ◌<◌, ◌≡◌, refl, sym, ap, ◌∙◌, subst, arith, Bool, true, false, nat_eq, List, [], ◌∷◌, ◌++◌}
+use Rattle.std.specs.Prelude.{Result, Ok, Err, IfOk, All, Some, None, if◌then◌else◌}
 use Rattle.std.proofs.lemmas.Bool.{eq-eqb}
 use Rattle.std.proofs.lemmas.List.Elements.{All-head, All-tail}
-use Rattle.nogoods.specs.declared.choice.Side.{Side}
 use Rattle.lpcc_case.specs.Instance.{Instance}
-use Rattle.lpcc_case.specs.Pieces.{IsPiece}
 use Rattle.play.specs.declared.event.Event.{Event}
 use Rattle.play.specs.declared.event.Event.TheVariants.{Publish, Read, Offer, Draw, Absorb, Learn, Settle, Conclude}
 use Rattle.play.specs.declared.event.Options.{Options}
 use Rattle.play.specs.declared.event.Ticket.{Ticket}
-use Rattle.play.specs.declared.event.VerdictKind.{VerdictKind}
 use Rattle.play.specs.declared.outcome.Outcome.{Outcome}
-use Rattle.play.specs.declared.outcome.Outcome.TheVariants as outcome
 use Rattle.play.specs.Parts.{Part, flight_of, without}
-use Rattle.play.specs.Steps.{after, settle, take_open}
+use Rattle.play.specs.Steps.{after}
 use Rattle.play.specs.Records.{Leads}
 use Rattle.desk_part.specs.declared.answer.Draw.{Draw as Answer}
 use Rattle.desk_part.specs.declared.answer.Draw.TheVariants as draw
-use Rattle.desk_part.specs.DeskParts.{AddedBy, Draws, DrawsOn, IsLearn, IsOver, MayBeSettled, Settles, SettlesOn, Standing, conclusion}
+use Rattle.desk_part.specs.DeskParts.{Draws, DrawsOn, IsLearn, IsOver, MayBeSettled, SettlesOn, Standing}
 use Rattle.play.specs.declared.ending.Ending.{Ending}
 use Rattle.desk_part.specs.DeskParts.{EndingKeepsForm, IsEndingOfRecord}
 use Rattle.engine.specs.Solved.{IsEnded}
-use Rattle.engine.specs.Outcomes.{IsOutcomeOf}
+use Rattle.settling.specs.Outcomes.{IsOutcomeOf}
 use Rattle.engine.specs.Turns.{Holds, IsDeskOf, IsTurn, IsWaiting}
 
 -- ---- a draw

@@ -1,3 +1,2 @@
-pub mod Outcomes
 pub mod Turns
 pub mod Solved

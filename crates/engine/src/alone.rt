@@ -2,12 +2,11 @@
 ghost use Rattle.std.specs.Prelude.{◌≡◌, IfOk};
 ghost use Rattle.engine.specs.Solved.{IsEnded, IsSolved, PiecesLast, PivotsLast, VerdictsAreShown, alone};
 
-use crate::outcome::Knowledge;
 use crate::turn::turn;
 use desk_part::RecordedPart;
 use lpcc_case::Case;
 use play::{Ending, Options};
-use shrink::KnownPoints;
+use settling::Knowledge;
 use std::alloc::{AllocError, Global};
 
 /// Goes on until the desk is done, and closes it.
@@ -16,10 +15,7 @@ fn run(alloc: Global, case: &Case, options: &Options) -> Result<Ending, AllocErr
     ensures { IfOk result (IsEnded case.now options.now) }
 {
     let mut desk = RecordedPart::create(alloc, case, options)?;
-    let mut known = Knowledge {
-        incumbent: None,
-        points: KnownPoints::new(alloc),
-    };
+    let mut known = Knowledge::new(alloc);
     'turns: loop {
         if !turn(alloc, case, options, &mut desk, &mut known)? {
             return desk.close(alloc);

@@ -3,9 +3,7 @@
 #![tactic(auto)]
 
 mod alone;
-mod choices;
 mod laws;
-mod outcome;
 mod turn;
 
 pub use alone::solve_alone;

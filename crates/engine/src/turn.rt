@@ -3,10 +3,10 @@ ghost use Rattle.std.specs.Prelude.{◌≡◌, ◌<◌, IfOk, OnOk};
 ghost use Rattle.play.specs.Points.{IsBest};
 ghost use Rattle.engine.specs.Turns.{Holds, IsTurn, IsWaiting};
 
-use crate::outcome::{Knowledge, outcome_of};
 use desk_part::{Draw, RecordedPart};
 use lpcc_case::Case;
 use play::{Options, Ticket};
+use settling::{Knowledge, outcome_of};
 use std::alloc::{AllocError, Global};
 
 /// Finds out about the piece of the ticket, and settles it.

@@ -1,4 +1,4 @@
-use Rattle.engine.proofs.Turns.{ended_here, fewer_left, may_close}
+use Rattle.engine.proofs.Turns.{fewer_left, may_close}
 use Rattle.engine.proofs.alone.run.Goals as goal
 
 pub close-requires : goal.close-requires

@@ -1,4 +1,4 @@
-use Rattle.std.proofs.Common.{ℕ, ◌-◌}
+use Rattle.std.proofs.Common.{◌-◌}
 use Rattle.play.specs.Points.{IsBest}
 use Rattle.engine.specs.Turns.{IsWaiting}
 use Rattle.engine.proofs.alone.run.Given as goal

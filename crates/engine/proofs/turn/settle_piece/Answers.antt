@@ -1,4 +1,4 @@
-use Rattle.engine.proofs.Turns.{may_settle, settled_waits}
+use Rattle.engine.proofs.Turns.{may_settle}
 use Rattle.engine.proofs.turn.settle_piece.Goals as goal
 
 pub settle-requires : goal.settle-requires

@@ -1,20 +1,18 @@
 -- What the answers of a solve say of a drawn piece.
-use Rattle.std.proofs.Common.{inl, inr, ℕ, zero, suc, ◌+◌, ◌<◌, ◌≡◌, refl, sym, ap, ◌∙◌, subst, arith, List, [], ◌∷◌, ◌++◌, length, map, get_or}
+use Rattle.std.proofs.Common.{inr, ℕ, zero, suc, ◌+◌, ◌<◌, ◌≡◌, sym, ap, ◌∙◌, subst, arith, List, [], ◌∷◌, length, map, get_or}
 use Rattle.std.specs.List.{AllByRecursion}
-use Rattle.std.proofs.lemmas.Bool.{and_from, lt-ltb}
-use Rattle.std.specs.Prelude.{true, nat_lt, ◌≤◌, ℤ, pos, ◌*ℤ◌, ◌≤ℤ◌, All, Contains, Option, Some, None, slice_get}
+use Rattle.std.specs.Prelude.{◌≤◌, ℤ, pos, ◌*ℤ◌, ◌≤ℤ◌, All, Contains, Option, Some, None, slice_get}
 use Rattle.std.proofs.lemmas.Int.{ints}
 use Rattle.std.proofs.lemmas.Option.{get_or_from_slice_get, slice_get-get_or, slice_get_within}
 use Rattle.std.proofs.lemmas.List.Elements.{All-nil, All-contains, All-from_recursion, recursion_from_All}
 use Rattle.nogoods.specs.declared.choice.Choice.{Choice}
 use Rattle.nogoods.specs.declared.choice.Side.{Side}
-use Rattle.nogoods.specs.Choices.{pairs_ascend}
 use Rattle.nogoods.specs.Pieces.{Bars, IsChoiceOf}
 use Rattle.lpcc_case.specs.Instance.{Instance, chosen}
 use Rattle.lpcc_case.specs.Points as points
 use Rattle.lpcc_case.specs.Points.{IsFeasible, IsTight, IsTightAt, MeetsAll, Relates, left_side}
 use Rattle.lpcc_case.specs.Pieces.{IsPiece, LiesIn, NamesPairs}
-use Rattle.lpcc_case.specs.NarrowPoints.{AreNumbersOf, IsPointOf, Means}
+use Rattle.lpcc_case.specs.NarrowPoints.{Means}
 use Rattle.lpcc_case.specs.declared.point.Point.{Point}
 use Rattle.lpcc_case.specs.declared.point.Ray.{Ray}
 use Rattle.lpcc_case.proofs.PieceLaws.{in_piece-feasible}
@@ -33,19 +31,16 @@ use Rattle.shrink.specs.Shrinking.{IsShrunk}
 use Rattle.shrink.specs.declared.shrunk.Shrunk.{Shrunk}
 use Rattle.lex_simplex.specs.Answers.{IsAnswer, IsPointCutOf, IsRayCutOf}
 use Rattle.lex_simplex.specs.declared.answer.LpAnswer.{LpAnswer}
-use Rattle.lex_simplex.specs.declared.answer.LpAnswer.TheVariants.{Infeasible, Optimum, Unbounded}
+use Rattle.lex_simplex.specs.declared.answer.LpAnswer.TheVariants.{Infeasible, Unbounded}
 use Rattle.play.specs.declared.event.Options.{Options}
-use Rattle.play.specs.declared.event.ShrinkMode.{ShrinkMode}
 use Rattle.play.specs.declared.event.ShrinkMode.TheVariants.{Full, Off}
-use Rattle.play.specs.declared.event.Ticket.{Ticket}
-use Rattle.play.specs.declared.outcome.Outcome.{Outcome}
 use Rattle.play.specs.declared.outcome.Outcome.TheVariants as outcome
-use Rattle.play.specs.Points.{IsBest, IsCandidate, choices_from, choices_of, lowered}
-use Rattle.play.specs.Lawful.{KeptFits, MaySettle, OutcomeFits, PointFits, ReasonFits}
-use Rattle.play.specs.Causes.{AreReasonsIn, IsTrueOutcome}
-use Rattle.play.proofs.PointLaws.{backed_lowered, best_lowered}
+use Rattle.play.specs.Points.{IsBest, choices_from, choices_of, lowered}
+use Rattle.play.specs.Lawful.{KeptFits, MaySettle, PointFits, ReasonFits}
+use Rattle.play.specs.Causes.{AreReasonsIn}
+use Rattle.play.proofs.PointLaws.{backed_lowered}
 use Rattle.play.proofs.Verdicts.{choices_bar}
-use Rattle.engine.specs.Outcomes.{IsOutcomeOf}
+use Rattle.settling.specs.Outcomes.{IsOutcomeOf}
 
 -- ---- choices of the piece
 
@@ -100,12 +95,6 @@ meets_by a x d = All (λ c. Relates c.kind (left_side c.terms x) (c.rhs *ℤ d))
 
 abbrev tight_by : (a : Instance) (choices : List Choice) → List ℤ → ℤ → Type 0
 tight_by a choices x d = All (λ c. left_side (chosen a c).terms x ≡ ((chosen a c).rhs *ℤ d)) choices
-
--- the pairs of a piece's choices ascend
-pub choices_rise : (k : ℕ) (sides : List Side) → pairs_ascend (choices_from k sides) ≡ true
-choices_rise k [] = refl
-choices_rise k (s ∷ []) = refl
-choices_rise k (s ∷ t ∷ sides) = and_from (nat_lt k (k + 1)) (pairs_ascend (choices_from (k + 1) (t ∷ sides))) (lt-ltb k (k + 1) (omega arith)) (choices_rise (k + 1) (t ∷ sides))
 
 names_below : (n k : ℕ) (sides : List Side) → k + length sides ≤ n → AllByRecursion (λ (c : Choice). c.pair < n) (choices_from k sides)
 names_below n k [] few = tt
@@ -196,11 +185,10 @@ pub by_shrunk_cut : (a : Instance) (o : Options) (piece : List Side) (c : Cut) (
 by_shrunk_cut a o piece c kept best full passes bars is_best active reasons =
     by_own_cut a o piece c kept best passes bars is_best active (fits_kept a o.pivots best (no_good_of c) kept (names_of a c passes) reasons) (subst (λ m. AreReasonsIn m a o.pivots best (no_good_of c) kept) (sym full) reasons)
 
-pub shrunk_outcome : (a : Instance) (o : Options) (piece : List Side) (old : Cut) (s : Shrunk) (best limit : Option Point) → o.shrink ≡ Full → Bars (no_good_of old) piece → IsBest a best → limit ≡ best → IsShrunk a o.pivots limit old s → IsOutcomeOf a o piece (outcome.Cut s.cut s.kept best)
+pub shrunk_outcome : (a : Instance) (o : Options) (piece : List Side) (old : Cut) (s : Shrunk) (best limit : Option Point) → o.shrink ≡ Full → Bars (no_good_of old) piece → IsBest a limit → best ≡ limit → IsShrunk a o.pivots limit old s → IsOutcomeOf a o piece (outcome.Cut s.cut s.kept best)
 shrunk_outcome a o piece old s best limit full bars is_best same h =
-    let P : Option Point → Type 0 = λ l. IsShrunk a o.pivots l old s in
-    let here = subst P same h in
-    by_shrunk_cut a o piece s.cut s.kept best full here.passes (fewer_bar (no_good_of old) (no_good_of s.cut) piece here.choices bars) is_best here.active here.kept
+    let P : Option Point → Type 0 = λ b. IsOutcomeOf a o piece (outcome.Cut s.cut s.kept b) in
+    subst P (sym same) (by_shrunk_cut a o piece s.cut s.kept limit full h.passes (fewer_bar (no_good_of old) (no_good_of s.cut) piece h.choices bars) is_best h.active h.kept)
 
 pub is_limit : (a : Instance) (best : Option Point) → IsBest a best → IsLimit a best
 is_limit a None h = tt
@@ -241,10 +229,6 @@ by_spent_end a o piece at h = record {
 
 -- ---- the incumbent and a point that was found
 
-pub improved_best : (a : Instance) (piece : List Side) (q : Point) (old taken found : Option Point) → IsPiece a piece → IsPointAt a (choices_of piece) q → IsBest a old → taken ≡ old → found ≡ lowered taken (Some q) → IsBest a found
-improved_best a piece q old taken found size at best same is =
-    subst (IsBest a) (sym (is ∙ ap (λ o. lowered o (Some q)) same)) (best_lowered a old (Some q) best (is_candidate a piece q size at))
-
-pub improved_active : (a : Instance) (piece : List Side) (q : Point) (c : Cut) (old taken found limit : Option Point) → IsPiece a piece → IsPointAt a (choices_of piece) q → IsPointCutOf a (choices_of piece) q c → IsBest a old → taken ≡ old → found ≡ lowered taken (Some q) → limit ≡ found → IsActiveAgainst c limit
-improved_active a piece q c old taken found limit size at of best same is here =
-    subst (IsActiveAgainst c) (sym (here ∙ is ∙ ap (λ o. lowered o (Some q)) same)) (point_cut_active a piece q c old of best (is_candidate a piece q size at))
+pub improved_active : (a : Instance) (piece : List Side) (q : Point) (c : Cut) (old new : Option Point) → IsPiece a piece → IsPointAt a (choices_of piece) q → IsPointCutOf a (choices_of piece) q c → IsBest a old → new ≡ lowered old (Some q) → IsActiveAgainst c new
+improved_active a piece q c old new size at of best is =
+    subst (IsActiveAgainst c) (sym is) (point_cut_active a piece q c old of best (is_candidate a piece q size at))

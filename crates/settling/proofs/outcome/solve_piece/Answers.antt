@@ -1,7 +1,7 @@
 use Rattle.std.proofs.Common.{sym, subst}
 use Rattle.lpcc_case.specs.Pieces.{NamesPairs}
-use Rattle.engine.proofs.Outcomes.{choices_named}
-use Rattle.engine.proofs.outcome.solve_piece.Goals as goal
+use Rattle.settling.proofs.Outcomes.{choices_named}
+use Rattle.settling.proofs.outcome.solve_piece.Goals as goal
 
 pub solve-requires : goal.solve-requires
 solve-requires c = record {

@@ -1,75 +1,45 @@
 //! How a drawn piece is settled: by the exact program of its choices, and a cut that is shrunk.
-ghost use Rattle.std.specs.Prelude.{◌≡◌, ◌≤ℤ◌, pos, IfOk, IfSome, Some};
-ghost use Rattle.std.specs.Option.{option_copied};
+ghost use Rattle.std.specs.Prelude.{◌≡◌, IfOk};
 ghost use Rattle.nogoods.specs.Pieces.{Bars};
 ghost use Rattle.lpcc_case.specs.Pieces.{IsPiece};
 ghost use Rattle.cuts.specs.Cuts.{Passes, no_good_of};
 ghost use Rattle.reasons.specs.Reasons.{IsActiveAgainst};
 ghost use Rattle.walks.specs.Ends.{IsPointAt};
 ghost use Rattle.lex_simplex.specs.Answers.{IsAnswer, IsPointCutOf};
-ghost use Rattle.play.specs.Points.{IsBest, choices_of, lowered};
+ghost use Rattle.play.specs.Points.{IsBest, choices_of};
 ghost use Rattle.play.specs.declared.event.ShrinkMode.TheVariants.{Full, Off};
-ghost use Rattle.engine.specs.Outcomes.{IsOutcomeOf};
+ghost use Rattle.settling.specs.Outcomes.{IsOutcomeOf};
 
-use crate::choices::choices_of;
+use crate::Knowledge;
 use cuts::Cut;
 use lex_simplex::{LpAnswer, solve};
 use lp_base::Sequence;
-use lpcc_case::{Case, Point, lower};
+use lpcc_case::{Case, Point};
 use nogoods::Piece;
-use play::{Options, Outcome, ShrinkMode};
-use shrink::{KnownPoints, shrink_with};
+use play::{Options, Outcome, ShrinkMode, choices_of};
 use std::alloc::{AllocError, Global};
-
-/// What is known of the case while pieces are settled: the incumbent, and points at which choices
-/// are loose.
-#[derive(Drop)]
-pub struct Knowledge {
-    pub incumbent: Option<Point>,
-    pub points: KnownPoints,
-}
-
-/// An equal point.
-fn copy_point(alloc: Global, point: &Point) -> Result<Point, AllocError>
-    ensures { IfOk result (λ made. made ≡ point.now) }
-{
-    Ok(Point {
-        d: point.d,
-        x: point.x.copy(alloc)?,
-        z: point.z,
-    })
-}
-
-fn copy_best(alloc: Global, best: Option<&Point>) -> Result<Option<Point>, AllocError>
-    ensures { IfOk result (λ made. made ≡ option_copied best.entry) }
-{
-    match best {
-        Some(point) => Ok(Some(copy_point(alloc, point)?)),
-        None => Ok(None),
-    }
-}
 
 /// The outcome by a cut as it is.
 fn by_plain_cut(
     alloc: Global,
     case: &Case,
     options: &Options,
-    best: Option<Point>,
+    known: &Knowledge,
     piece: &Piece,
     cut: Cut,
-) -> Outcome
+) -> Result<Outcome, AllocError>
     requires off { options.now.shrink ≡ Off }
     requires passes { Passes case.now cut }
     requires bars { Bars (no_good_of cut) piece.now }
-    requires active { IsActiveAgainst cut best }
-    requires best { IsBest case.now best }
-    ensures { IsOutcomeOf case.now options.now piece.now result }
+    requires active { IsActiveAgainst cut known.now.incumbent }
+    requires best { IsBest case.now known.now.incumbent }
+    ensures { IfOk result (IsOutcomeOf case.now options.now piece.now) }
 {
-    Outcome::Cut {
+    Ok(Outcome::Cut {
         cut,
         kept: Sequence::new(alloc),
-        best,
-    }
+        best: known.copy_incumbent(alloc)?,
+    })
 }
 
 /// The outcome by what shrinking leaves of a cut.
@@ -77,19 +47,20 @@ fn by_shrunk_cut(
     alloc: Global,
     case: &Case,
     options: &Options,
-    best: Option<Point>,
-    points: &mut KnownPoints,
+    known: &mut Knowledge,
     piece: &Piece,
     cut: Cut,
 ) -> Result<Outcome, AllocError>
     requires full { options.now.shrink ≡ Full }
     requires passes { Passes case.now cut }
     requires bars { Bars (no_good_of cut) piece.now }
-    requires active { IsActiveAgainst cut best }
-    requires best { IsBest case.now best }
-    ensures { IfOk result (IsOutcomeOf case.now options.now piece.now) }
+    requires active { IsActiveAgainst cut known.old.incumbent }
+    requires best { IsBest case.now known.old.incumbent }
+    ensures same { known.new ≡ known.old }
+    ensures outcome { IfOk result (IsOutcomeOf case.now options.now piece.now) }
 {
-    let shrunk = shrink_with(alloc, case, cut, best.as_ref(), options.pivots, points)?;
+    let best = known.copy_incumbent(alloc)?;
+    let shrunk = known.shrink_cut(alloc, case, cut, options.pivots)?;
     Ok(Outcome::Cut {
         cut: shrunk.cut,
         kept: shrunk.kept,
@@ -102,37 +73,20 @@ fn by_cut(
     alloc: Global,
     case: &Case,
     options: &Options,
-    incumbent: Option<&Point>,
-    points: &mut KnownPoints,
+    known: &mut Knowledge,
     piece: &Piece,
     cut: Cut,
 ) -> Result<Outcome, AllocError>
     requires passes { Passes case.now cut }
     requires bars { Bars (no_good_of cut) piece.now }
-    requires active { IsActiveAgainst cut (option_copied incumbent) }
-    requires best { IsBest case.now (option_copied incumbent) }
-    ensures { IfOk result (IsOutcomeOf case.now options.now piece.now) }
+    requires active { IsActiveAgainst cut known.old.incumbent }
+    requires best { IsBest case.now known.old.incumbent }
+    ensures same { known.new ≡ known.old }
+    ensures outcome { IfOk result (IsOutcomeOf case.now options.now piece.now) }
 {
-    let best = copy_best(alloc, incumbent)?;
     match options.shrink {
-        ShrinkMode::Off => Ok(by_plain_cut(alloc, case, options, best, piece, cut)),
-        ShrinkMode::Full => by_shrunk_cut(alloc, case, options, best, points, piece, cut),
-    }
-}
-
-/// The lower of the incumbent and a point that was found, the incumbent where they cost the same.
-fn improved(incumbent: Option<Point>, found: Point) -> Option<Point>
-    requires old { IfSome incumbent (λ q. pos 1 ≤ℤ q.d) }
-    requires found { pos 1 ≤ℤ found.d }
-    ensures { result ≡ lowered incumbent (Some found) }
-{
-    let Some(old) = incumbent else {
-        return Some(found);
-    };
-    if lower(&found, &old) {
-        Some(found)
-    } else {
-        Some(old)
+        ShrinkMode::Off => by_plain_cut(alloc, case, options, known, piece, cut),
+        ShrinkMode::Full => by_shrunk_cut(alloc, case, options, known, piece, cut),
     }
 }
 
@@ -168,16 +122,8 @@ fn by_optimum(
     ensures best { IsBest case.now known.new.incumbent }
     ensures outcome { IfOk result (IsOutcomeOf case.now options.now piece.now) }
 {
-    known.incumbent = improved(known.incumbent.take(), point);
-    by_cut(
-        alloc,
-        case,
-        options,
-        known.incumbent.as_ref(),
-        &mut known.points,
-        piece,
-        cut,
-    )
+    known.improve(case, point);
+    by_cut(alloc, case, options, known, piece, cut)
 }
 
 /// Solves the program of the piece's choices, keeps the best point, and tells how the piece is to
@@ -200,18 +146,8 @@ pub fn outcome_of(
     ensures outcome { IfOk result (IsOutcomeOf case.now options.now piece.now) }
 {
     match solve_piece(alloc, case, options, piece)? {
-        LpAnswer::Infeasible(cut) => by_cut(
-            alloc,
-            case,
-            options,
-            known.incumbent.as_ref(),
-            &mut known.points,
-            piece,
-            cut,
-        ),
-        LpAnswer::Optimum(point, cut) => {
-            by_optimum(alloc, case, options, known, piece, point, cut)
-        },
+        LpAnswer::Infeasible(cut) => by_cut(alloc, case, options, known, piece, cut),
+        LpAnswer::Optimum(point, cut) => by_optimum(alloc, case, options, known, piece, point, cut),
         LpAnswer::Unbounded(point, ray) => Ok(Outcome::Unbounded { point, ray }),
         LpAnswer::Wide(at) => Ok(Outcome::Wide(at)),
         LpAnswer::Spent(at) => Ok(Outcome::Spent(at)),
