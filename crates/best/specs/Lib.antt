@@ -1,0 +1,5 @@
+pub mod History
+pub mod Rules
+pub mod Passes
+pub mod PointOrder
+pub mod PointLaws
