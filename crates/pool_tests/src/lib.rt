@@ -1,6 +1,8 @@
-//! Tests of pages, of the words of cuts and of the pool.
+//! Tests of pages, of the words of cuts, of the pool and of the best.
 #![tactic(auto)]
 
+#[cfg(test)]
+mod best_tests;
 #[cfg(test)]
 mod lane_tests;
 #[cfg(test)]
