@@ -2,6 +2,7 @@
 -- counted from 1, the head and the kind being the first two; the first line that fails is named with its reason.
 use Rattle.std.specs.Prelude.{◌≡◌, ◌<◌, ◌+◌, ◌-◌, ◌⊎◌, ℕ, ℤ, pos, ◌*ℤ◌, ◌≤ℤ◌, true, List, [], All, Option, Some, None, length, map, slice_get, take}
 use Rattle.std.specs.List.{range_with_len}
+use Rattle.lp_base.specs.Answers.{UnlessShort}
 use Rattle.lp_base.specs.Sums.{dot}
 use Rattle.nogoods.specs.declared.choice.Choice.{Choice}
 use Rattle.lpcc_case.specs.Instance.{Instance}
@@ -64,7 +65,7 @@ RayPasses a piece ray = NamesColumns a ray × Recedes a piece (numbers_of a.colu
 abbrev pub IsBoundFor : ℤ × ℤ → ℤ → ℤ → Type 0
 IsBoundFor value e v = (value.0 *ℤ e) ≤ℤ (v *ℤ value.1)
 
--- the point cut whose bound is the weighed right side over e
+-- the point cut whose bound is the sum of the right sides times their multipliers, over e: a dual bound
 abbrev pub PointCutPasses : Instance → List Choice → ℤ → List (ℕ × ℤ) → Type 0
 PointCutPasses a ng e mult = Passes a (cut.Point ng mult e (right_sum a mult))
 
@@ -130,7 +131,11 @@ pub record Accepts (a : Instance) (cert : Cert) (v : Verdict) : Type 0 where
   pub passes : (n : ℕ) (why : NoWhy) → LineFails a cert n why → ⊥
   pub claims : Claims a cert v
 
+-- the line and the reason that a call names, none where memory is short
+abbrev pub found_by : CheckFault → Option (ℕ × NoWhy)
+found_by (No line why) = Some (line, why)
+found_by (NoMemory error) = None
+
 -- the line and the reason that are named are the first, unless memory is short
 abbrev pub RefusesAs : Instance → Cert → CheckFault → Type 0
-RefusesAs a cert (No line why) = Refuses a cert line why
-RefusesAs a cert (NoMemory error) = Unit {0}
+RefusesAs a cert fault = UnlessShort found_by (λ found. Refuses a cert found.0 found.1) fault

@@ -1,5 +1,6 @@
 -- What the parts of acceptance answer.
 use Rattle.std.specs.Prelude.{◌≡◌, ◌<◌, ◌≤ℤ◌, ℕ, ℤ, pos, List, Option, Some, None, map, slice_get, take}
+use Rattle.lp_base.specs.Answers.{UnlessShort}
 use Rattle.lpcc_case.specs.Instance.{Instance}
 use Rattle.lpcc_case.specs.Points as points
 use Rattle.lpcc_case.specs.NarrowPoints.{IsPointFor, Means}
@@ -9,8 +10,7 @@ use Rattle.cert_text.specs.declared.cert.CertLine.{CertLine}
 use Rattle.cert_text.specs.Certs.{no_good_of}
 use Rattle.cert_check.specs.declared.accept.NoWhy.{NoWhy}
 use Rattle.cert_check.specs.declared.accept.CheckFault.{CheckFault}
-use Rattle.cert_check.specs.declared.accept.CheckFault.TheVariants.{No, NoMemory}
-use Rattle.cert_check.specs.Acceptance.{GivesMet, NoGoodFails}
+use Rattle.cert_check.specs.Acceptance.{GivesMet, NoGoodFails, found_by}
 use Rattle.cert_check.specs.Barring.{FirstPass, NoGoodsPass}
 
 -- there is no reason to fail, or this is one
@@ -25,10 +25,9 @@ FindsFirst a value lines (Some found) =
     ((line : CertLine) × (slice_get lines found.0 ≡ Some line) × NoGoodFails a value (map no_good_of (take found.0 lines)) line found.1)
     × FirstPass a value lines found.0
 
--- the line that is named fails for this reason, and none before it fails
+-- the line that is named fails for this reason, and none before it fails, unless memory is short
 abbrev pub NamesFirst : (ℕ → NoWhy → Type 0) → CheckFault → Type 0
-NamesFirst Fails (No n why) = Fails n why × ((m : ℕ) (other : NoWhy) → m < n → Fails m other → ⊥)
-NamesFirst Fails (NoMemory error) = Unit {0}
+NamesFirst Fails fault = UnlessShort found_by (λ found. Fails found.0 found.1 × ((m : ℕ) (other : NoWhy) → m < found.0 → Fails m other → ⊥)) fault
 
 -- the denominator of a value is at least 1
 abbrev pub IsOverPositive : Option (ℤ × ℤ) → Type 0

@@ -4,8 +4,8 @@ ghost use Rattle.lpcc_case.specs.Verdicts.{IsTrueOf};
 ghost use Rattle.lpcc_case.specs.declared.verdict.Verdict.{Verdict as Claim};
 ghost use Rattle.cert_text.specs.Certs.{AreTerms, IsLine, IsPoint, KeepsForm};
 ghost use Rattle.cert_check.specs.declared.accept.NoWhy.{NoWhy as Reason};
-ghost use Rattle.cert_check.specs.Acceptance.{Accepts, Refuses, RefusesAs};
-ghost use Rattle.cert_check.specs.Answers.{GivesVerdict, GivesRefusal};
+ghost use Rattle.lp_base.specs.Answers.{Gives, Refuses as IsRefused};
+ghost use Rattle.cert_check.specs.Acceptance.{Accepts, Refuses, RefusesAs, found_by};
 ghost use Rattle.cert_check.specs.Names.{name_of};
 
 use crate::lines::judge_lines;
@@ -196,8 +196,8 @@ pub fn check(alloc: Global, case: &Case, cert: &Cert) -> Result<Verdict, CheckFa
     ensures accepted { IfOk result (Accepts case.now cert.now) }
     ensures refused { IfErr result (RefusesAs case.now cert.now) }
     // What is so is answered, unless memory is short.
-    ensures only_accepted { (v : Claim) → Accepts case.now cert.now v → GivesVerdict result v }
-    ensures only_refused { (line : ℕ) (why : Reason) → Refuses case.now cert.now line why → GivesRefusal result line why }
+    ensures only_accepted { (v : Claim) → Accepts case.now cert.now v → Gives found_by v result }
+    ensures only_refused { (line : ℕ) (why : Reason) → Refuses case.now cert.now line why → IsRefused found_by (line, why) result }
     // An accepted certificate's verdict is true.
     ensures sound { IfOk result (IsTrueOf case.now) }
 {

@@ -17,8 +17,8 @@ use Rattle.cert_text.specs.Spelling.{Word, point_words, value_words, piece_words
 use Rattle.cert_text.specs.Splits.{split}
 use Rattle.cert_text.specs.Lines.{is_comment, lines_among, tail_among, is_content, is_cut}
 use Rattle.cert_text.specs.Faults.{words, is_last}
-use Rattle.cert_text.specs.Reading.{◌>>=◌, Reading, point_at, value_at, piece_at, ray_at, line_at, end_at}
-use Rattle.cert_text.specs.Steps.{Found, Left, all_lines, behind, at, line_as, head_step, kind_in, kind_step, entry_at, or_more, log_from, log_step, last_step, optimal_step, infeasible_step, unbounded_step, step_of, behind_end, cert_at}
+use Rattle.cert_text.specs.Reading.{kind_at, ◌>>=◌, Reading, point_at, value_at, piece_at, ray_at, line_at, end_at}
+use Rattle.cert_text.specs.Steps.{Found, Left, all_lines, behind, at, line_as, head_step, kind_step, entry_at, or_more, log_from, log_step, last_step, optimal_step, infeasible_step, unbounded_step, step_of, behind_end, cert_at}
 use Rattle.cert_text.specs.Texts.{Spells}
 use Rattle.cert_text.proofs.Results.{same_ok, bind_ok, either}
 use Rattle.cert_text.proofs.Joined.{IsInLine, line_in_line, lines_joined, words_joined}
@@ -324,8 +324,8 @@ tail_again t (Unbounded ng p ray) h few = (
       (line_as_again (end_at 0) (t + 1 + 1 + 1) _ _ [] 0 (plain_end 0) (end_again 0 few)),
 )
 
-kind_again : (k : Kind) → kind_in (kind_line k) ≡ Ok k
-unfolding kind_in
+kind_again : (k : Kind) → kind_at (kind_line k) ≡ Ok k
+unfolding kind_at
 kind_again kinds.Optimal = refl
 kind_again kinds.Infeasible = refl
 kind_again kinds.Unbounded = refl
@@ -343,7 +343,7 @@ cert_again c h few =
     let k = kind_of c in
     ap (λ (ls : List (List ℕ)). cert_at (left_of 0 ls)) (titled_is c)
     ∙ ap (λ (r : Found (Kind × Left)). r >>= λ kind. step_of kind.0 kind.1 >>= λ cert. behind_end cert.1 >>= λ _. Ok cert.0)
-    (kind_steps (left_of (0 + 1) (kind_line k ∷ tail_lines c)) ∙ step_again kind_in (0 + 1) (kind_line k) (tail_lines c) k (kind_again k))
+    (kind_steps (left_of (0 + 1) (kind_line k ∷ tail_lines c)) ∙ step_again kind_at (0 + 1) (kind_line k) (tail_lines c) k (kind_again k))
     ∙ ap (λ (r : Found (Cert × Left)). r >>= λ cert. behind_end cert.1 >>= λ _. Ok cert.0) tail.1
 
 pub spelled_is_read : (text : List ℕ) (c : Cert) → Spells text c → cert_at (all_lines text) ≡ Ok c

@@ -1,17 +1,21 @@
 -- The clauses of the reader, and the laws.
 use Rattle.std.proofs.Common.{◌≡◌, ℕ, ◌⊎◌, inl, inr, List, [], Option, Some, None, Result, Ok, Err, refl, sym, ap, subst, ◌∙◌}
 use Rattle.std.specs.Prelude.{IfOk, IfErr}
+use Rattle.lp_base.specs.Answers.{Gives, Refuses}
 use Rattle.cert_text.specs.declared.cert.Cert.{Cert}
 use Rattle.cert_text.specs.declared.fault.CertWhy.{CertWhy}
 use Rattle.cert_text.specs.declared.fault.CertFault.{CertFault}
 use Rattle.cert_text.specs.declared.fault.CertFault.TheVariants.{NoMemory, At}
 use Rattle.cert_text.specs.Lines.{content, is_cut}
 use Rattle.cert_text.specs.Steps.{Finds, all_lines, cert_at}
-use Rattle.cert_text.specs.Texts.{Spells, Fails, FailsAs, Answer, Gives}
-use Rattle.cert_text.proofs.Results.{same_ok, apart}
+use Rattle.cert_text.specs.Texts.{Spells, Fails, FailsAs, found_by}
+use Rattle.cert_text.proofs.Results.{same_ok, same_err, apart}
 use Rattle.cert_text.proofs.Relations.{first_fault, fault_found, found_fails, same_fault}
 use Rattle.cert_text.proofs.Certificates.{read_is_spelled, spelled_is_read}
 use Rattle.cert_text.proofs.Frames.{Wholly, cert_wholly}
+
+abbrev Answer : Type 0
+Answer = Result Cert (ℕ × CertWhy)
 
 abbrev answer : List ℕ → Answer
 answer text = cert_at (all_lines text)
@@ -48,25 +52,24 @@ refused_fails text n w e = found_fails text n w (wholly text (is_refused (n, w))
 abbrev Found : Result Cert CertFault → List ℕ → Type 0
 Found r text = Finds (λ cert. cert) r (answer text)
 
-as_gives : (r : Result Cert CertFault) (a : Answer) → Finds (λ cert. cert) r a → Gives r a
-as_gives (Ok c) a h = h
-as_gives (Err (NoMemory e)) a h = tt
-as_gives (Err (At line why)) a h = h
-
 pub given_spelled : (r : Result Cert CertFault) (text : List ℕ) → Found r text → IfOk r (λ c. Spells text c)
 given_spelled (Ok c) text h = read_is_spelled text c h
 given_spelled (Err fault) text h = tt
 
-pub given_only : (r : Result Cert CertFault) (text : List ℕ) → Found r text → (c : Cert) → Spells text c → Gives r (Ok c)
-given_only r text h c s = subst (λ (a : Answer). Gives r a) (spelled_is_read text c s) (as_gives r (answer text) h)
+pub given_only : (r : Result Cert CertFault) (text : List ℕ) → Found r text → (c : Cert) → Spells text c → Gives found_by c r
+given_only (Ok found) text h c s = same_ok found c (sym h ∙ spelled_is_read text c s)
+given_only (Err (NoMemory e)) text h c s = tt
+given_only (Err (At line why)) text h c s = apart c (line, why) (sym (spelled_is_read text c s) ∙ h)
 
 pub given_fails : (r : Result Cert CertFault) (text : List ℕ) → Found r text → IfErr r (λ fault. FailsAs fault text)
 given_fails (Ok c) text h = tt
 given_fails (Err (NoMemory e)) text h = tt
 given_fails (Err (At line why)) text h = refused_fails text line why h
 
-pub given_only_fails : (r : Result Cert CertFault) (text : List ℕ) → Found r text → (line : ℕ) (why : CertWhy) → Fails text line why → Gives r (Err (line, why))
-given_only_fails r text h line why f = subst (λ (a : Answer). Gives r a) (failed_is_refused text line why f) (as_gives r (answer text) h)
+pub given_only_fails : (r : Result Cert CertFault) (text : List ℕ) → Found r text → (line : ℕ) (why : CertWhy) → Fails text line why → Refuses found_by (line, why) r
+given_only_fails (Ok found) text h line why f = apart found (line, why) (sym h ∙ failed_is_refused text line why f)
+given_only_fails (Err (NoMemory e)) text h line why f = tt
+given_only_fails (Err (At n w)) text h line why f = same_err (n, w) (line, why) (sym h ∙ failed_is_refused text line why f)
 
 -- ---- laws
 

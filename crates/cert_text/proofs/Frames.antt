@@ -15,8 +15,8 @@ use Rattle.cert_text.specs.declared.read.Kind.{Kind}
 use Rattle.cert_text.specs.declared.read.Kind.TheVariants as kinds
 use Rattle.cert_text.specs.Spelling.{Word, colon, choice_word, term_words}
 use Rattle.cert_text.specs.Faults.{words, is_last, is_ended, reason, head_fault, log_fault, place_behind, fault_at, fault_of, end_fault}
-use Rattle.cert_text.specs.Reading.{◌>>=◌, Reading, point_at, value_at, piece_at, ray_at, line_at, end_at}
-use Rattle.cert_text.specs.Steps.{Found, Left, behind, at, first_of, whole_line, line_as, head_of, head_step, kind_in, kind_step, entry_at, or_more, log_from, log_step, last_step, optimal_step, infeasible_step, unbounded_step, step_of, over_of, behind_end, cert_at}
+use Rattle.cert_text.specs.Reading.{kind_at, ◌>>=◌, Reading, point_at, value_at, piece_at, ray_at, line_at, end_at}
+use Rattle.cert_text.specs.Steps.{Found, Left, behind, at, first_of, whole_line, line_as, head_of, head_step, kind_step, entry_at, or_more, log_from, log_step, last_step, optimal_step, infeasible_step, unbounded_step, step_of, over_of, behind_end, cert_at}
 use Rattle.cert_text.proofs.Results.{same_err}
 use Rattle.cert_text.proofs.Relations.{numbered, or_later, first_fault}
 use Rattle.cert_text.proofs.Forms.{point_takes, value_takes, piece_line_takes, ray_takes, end_takes}
@@ -296,15 +296,8 @@ behind_tail : (here : Option Fault) (r : Found (Cert × Left)) → Ends here r �
 behind_tail here (Err x) h = h
 behind_tail here (Ok y) h = wholly_keeps here (behind_end y.1) y.0 (wholly_from here (first h.0 y.1) (behind_end y.1) h.3 (over_wholly h.0 y.1 h.1 h.2))
 
-kind_judged_by : (a b c : Bool) (o i u : Kind) (w : CertWhy) → cond a None (cond b None (cond c None (Some w))) ≡ reason (cond a (Ok o) (cond b (Ok i) (cond c (Ok u) (Err w))))
-kind_judged_by true b c o i u w = refl
-kind_judged_by false true c o i u w = refl
-kind_judged_by false false true o i u w = refl
-kind_judged_by false false false o i u w = refl
-
-kind_judged : (l : List ℕ) → fault_of (head_line ∷ []) l ≡ reason (kind_in l)
-unfolding kind_in
-kind_judged l = kind_judged_by (bytes_eq l (codes "optimal")) (bytes_eq l (codes "infeasible")) (bytes_eq l (codes "unbounded")) kinds.Optimal kinds.Infeasible kinds.Unbounded BadLine
+kind_judged : (l : List ℕ) → fault_of (head_line ∷ []) l ≡ reason (kind_at l)
+kind_judged l = refl
 
 kind_no_last : (k : Kind) → is_last (kind_line k) ≡ false
 kind_no_last kinds.Optimal = refl
@@ -315,13 +308,13 @@ behind_head : (left : Left) → IsOpen (head_line ∷ []) left → Wholly (first
 behind_head left o =
     let b = head_line ∷ [] in
     wholly_bind (first b left) (kind_step left) (λ kind. step_of kind.0 kind.1 >>= λ cert. behind_end cert.1 >>= λ _. Ok cert.0)
-    (λ x e. step_fails kind_in b left x o kind_judged (sym (kind_steps left) ∙ e))
+    (λ x e. step_fails kind_at b left x o kind_judged (sym (kind_steps left) ∙ e))
     (λ k e.
     let s = kind_stepped left k e in
     let line : s.line ≡ kind_line k.0 = kind_takes s.line k.0 s.read in
     let o1 = open_push b s.line left k.1 o (ap is_last line ∙ kind_no_last k.0) s.next_is in
     let titled : b ++ s.line ∷ [] ≡ titles k.0 = ap (λ (l : List ℕ). b ++ l ∷ []) line in
-    wholly_from (first b left) (first (titles k.0) k.1) _ (step_goes_on kind_in b left k.0 k.1 kind_judged s ∙ ap (λ (t : Lines). first t k.1) titled)
+    wholly_from (first b left) (first (titles k.0) k.1) _ (step_goes_on kind_at b left k.0 k.1 kind_judged s ∙ ap (λ (t : Lines). first t k.1) titled)
     (behind_tail (first (titles k.0) k.1) (step_of k.0 k.1) (tail_ends k.0 k.1 (subst (λ (t : Lines). IsOpen t k.1) titled o1))))
 
 head_by : (left : Left) (ls : Lines) (x : Fault) (cut : Bool) → left.cut ≡ cut → left.taken ≡ 0 → head_of left ls ≡ Err x → first_fault cut [] ls ≡ fault_is x

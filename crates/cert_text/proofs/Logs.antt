@@ -5,7 +5,9 @@ use Rattle.cert_text.specs.declared.cert.CertLine.{CertLine}
 use Rattle.cert_text.specs.declared.fault.CertFault.{CertFault}
 use Rattle.cert_text.specs.declared.fault.CertFault.TheVariants.{NoMemory, At}
 use Rattle.cert_text.specs.Reading.{◌>>=◌, Reading}
-use Rattle.cert_text.specs.Steps.{Found, RefusesLines, Left, behind, at, first_of, whole_line, entry_at, entry_step, or_more, log_from, log_step}
+use Rattle.lp_base.specs.Answers.{UnlessShort}
+use Rattle.cert_text.specs.Texts.{found_by}
+use Rattle.cert_text.specs.Steps.{Found, Left, behind, at, first_of, whole_line, entry_at, entry_step, or_more, log_from, log_step}
 use Rattle.cert_text.proofs.Results.{bind_ok, same_ok}
 use Rattle.cert_text.proofs.Going.{onto_first, onto_first_push}
 
@@ -39,7 +41,7 @@ log_at before n left r all k e so_far =
     log_at_entry before left all so_far ∙ ap (λ (x : Found (Option CertLine × Left)). onto_first before (x >>= goes_on (length before))) (sym (ap (λ (m : ℕ). entry_step m left) k) ∙ e)
 
 pub log_refused : (fault : CertFault) (before : List CertLine) (n : ℕ) (left : Left) (all : Found Log) → n ≡ length before
-    → RefusesLines fault (entry_step n left) → onto_first before (log_step (length before) left) ≡ all → RefusesLines fault all
+    → UnlessShort found_by (λ why. entry_step n left ≡ Err why) fault → onto_first before (log_step (length before) left) ≡ all → UnlessShort found_by (λ why. all ≡ Err why) fault
 log_refused (NoMemory e) before n left all k h so_far = tt
 log_refused (At line why) before n left all k h so_far = log_at before n left (Err (line, why)) all k h so_far
 

@@ -8,8 +8,8 @@ use Rattle.cert_text.specs.declared.read.Kind.TheVariants.{Optimal, Infeasible, 
 use Rattle.cert_text.specs.declared.fault.CertWhy.TheVariants.{BadHead, BadLine, AfterEnd}
 use Rattle.cert_text.specs.Spelling.{Word, line_bytes}
 use Rattle.cert_text.specs.Faults.{words, is_last}
-use Rattle.cert_text.specs.Reading.{◌>>=◌, Reading}
-use Rattle.cert_text.specs.Steps.{Found, Left, behind, at, first_of, whole_line, line_as, head_of, head_step, kind_in, kind_step, over_of, behind_end}
+use Rattle.cert_text.specs.Reading.{kind_at, ◌>>=◌, Reading}
+use Rattle.cert_text.specs.Steps.{Found, Left, behind, at, first_of, whole_line, line_as, head_of, head_step, kind_step, over_of, behind_end}
 use Rattle.cert_text.proofs.Results.{same_ok, bind_ok, unless_test, by_test, either}
 use Rattle.cert_text.proofs.Numbers.{IsPlain}
 use Rattle.cert_text.proofs.Joined.{words_joined}
@@ -30,7 +30,7 @@ pub line_step : {X : Type 0} (f : List Word → Reading X) (left : Left) → lin
 unfolding line_as
 line_step f left = refl
 
-pub kind_steps : (left : Left) → kind_step left ≡ step kind_in left
+pub kind_steps : (left : Left) → kind_step left ≡ step kind_at left
 unfolding kind_step
 kind_steps left = refl
 
@@ -62,8 +62,8 @@ stepped g left y e = let s = stepped_by g left left.lines y e in record { line =
 pub line_stepped : {X : Type 0} (f : List Word → Reading X) (left : Left) (y : X × Left) → line_as f left ≡ Ok y → Stepped (λ l. f (words l)) left y.0 y.1
 line_stepped f left y e = stepped (λ l. f (words l)) left y (sym (line_step f left) ∙ e)
 
-pub kind_stepped : (left : Left) (y : Kind × Left) → kind_step left ≡ Ok y → Stepped kind_in left y.0 y.1
-kind_stepped left y e = stepped kind_in left y (sym (kind_steps left) ∙ e)
+pub kind_stepped : (left : Left) (y : Kind × Left) → kind_step left ≡ Ok y → Stepped kind_at left y.0 y.1
+kind_stepped left y e = stepped kind_at left y (sym (kind_steps left) ∙ e)
 
 -- a line is its words, one space between them
 pub line_of_words : (l : List ℕ) (ws : List Word) → words l ≡ ws → l ≡ line_bytes ws
@@ -90,8 +90,8 @@ head_takes left next e = head_by left left.lines next e
 kind_is : (kind : Kind) (l : List ℕ) (k : Kind) → bytes_eq l (kind_line kind) ≡ true → kind ≡ k → l ≡ kind_line k
 kind_is kind l k t e = (bytes_eq-Decides l (kind_line kind)).0 t ∙ ap kind_line e
 
-pub kind_takes : (l : List ℕ) (k : Kind) → kind_in l ≡ Ok k → l ≡ kind_line k
-unfolding kind_in
+pub kind_takes : (l : List ℕ) (k : Kind) → kind_at l ≡ Ok k → l ≡ kind_line k
+unfolding kind_at
 kind_takes l k e = elim (either (bytes_eq l (codes "optimal")) (Ok Optimal) (cond (bytes_eq l (codes "infeasible")) (Ok Infeasible) (cond (bytes_eq l (codes "unbounded")) (Ok Unbounded) (Err BadLine))) (Ok k) e) [
   | inl optimal ↦ kind_is Optimal l k optimal.0 (same_ok Optimal k optimal.1)
   | inr other ↦ elim (either (bytes_eq l (codes "infeasible")) (Ok Infeasible) (cond (bytes_eq l (codes "unbounded")) (Ok Unbounded) (Err BadLine)) (Ok k) other.1) [

@@ -2,10 +2,10 @@
 use Rattle.std.specs.Prelude.{ℕ, zero, suc, Bool, not, if◌then◌else◌, ◌&&◌, ◌==◌, List, [], ◌∷◌, length, slice_index_or, Option, Some, None, Ok, Err, codes, bytes_eq}
 use Rattle.std.specs.List.{list_any}
 use Rattle.cert_text.specs.declared.fault.CertWhy.{CertWhy}
-use Rattle.cert_text.specs.declared.fault.CertWhy.TheVariants.{BadHead, BadLine, NotEnded, AfterEnd}
+use Rattle.cert_text.specs.declared.fault.CertWhy.TheVariants.{BadHead, NotEnded, AfterEnd}
 use Rattle.cert_text.specs.Spelling.{Word}
 use Rattle.cert_text.specs.Splits.{split}
-use Rattle.cert_text.specs.Reading.{Reading, line_at, end_at, point_at, value_at, piece_at, ray_at}
+use Rattle.cert_text.specs.Reading.{Reading, kind_at, line_at, end_at, point_at, value_at, piece_at, ray_at}
 
 -- the form of a line that comes next
 pub data Place : Type 0 where
@@ -59,19 +59,13 @@ reason (Err why) = Some why
 abbrev pub head_fault : List ℕ → Option CertWhy
 head_fault line = if bytes_eq line (codes "lpcc-certificate 1") then None else Some BadHead
 
-abbrev pub kind_fault : List ℕ → Option CertWhy
-kind_fault line =
-    if bytes_eq line (codes "optimal") then None else
-    if bytes_eq line (codes "infeasible") then None else
-    if bytes_eq line (codes "unbounded") then None else Some BadLine
-
 abbrev pub log_fault : ℕ → List ℕ → Option CertWhy
 log_fault n line = if is_last line then reason (end_at n (words line)) else reason (line_at (words line))
 
 -- the fault of a line at its place
 abbrev pub fault_at : Place → List ℕ → Option CertWhy
 fault_at Head line = head_fault line
-fault_at Kind line = kind_fault line
+fault_at Kind line = reason (kind_at line)
 fault_at PointLine line = reason (point_at (words line))
 fault_at ValueLine line = reason (value_at (words line))
 fault_at PieceLine line = reason (piece_at (words line))

@@ -11,6 +11,8 @@ use Rattle.nogoods.specs.declared.choice.Side.TheVariants.{A, B}
 use Rattle.cert_text.specs.declared.cert.CertPoint.{CertPoint}
 use Rattle.cert_text.specs.declared.cert.CertLine.{CertLine}
 use Rattle.cert_text.specs.declared.cert.CertLine.TheVariants.{Ray, Point, Derived}
+use Rattle.cert_text.specs.declared.read.Kind.{Kind}
+use Rattle.cert_text.specs.declared.read.Kind.TheVariants.{Optimal, Infeasible, Unbounded}
 use Rattle.cert_text.specs.declared.fault.CertWhy.{CertWhy}
 use Rattle.cert_text.specs.declared.fault.CertWhy.TheVariants.{BadLine, BadChoice, NumberWide, BadCount}
 use Rattle.cert_text.specs.Spelling.{Word, colon}
@@ -154,6 +156,13 @@ hints_at (word ∷ words) = do
   Ok (h ∷ hints)
 
 -- ---- lines
+
+-- the kind that the second content line names
+unfoldable pub kind_at : List ℕ → Reading Kind
+kind_at line =
+    if bytes_eq line (codes "optimal") then Ok Optimal else
+    if bytes_eq line (codes "infeasible") then Ok Infeasible else
+    if bytes_eq line (codes "unbounded") then Ok Unbounded else Err BadLine
 
 -- a positive number with a colon behind it, and what stands behind that
 unfoldable pub bound_at : List Word → Reading (ℤ × List Word)

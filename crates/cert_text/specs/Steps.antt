@@ -1,5 +1,6 @@
 -- Reading a certificate line by line, and what calls give of it.
 use Rattle.std.specs.Prelude.{◌≡◌, ◌<◌, ◌+◌, ℕ, Bool, true, false, if◌then◌else◌, List, [], ◌∷◌, length, Option, Some, None, Result, Ok, Err, codes, bytes_eq}
+use Rattle.lp_base.specs.Answers.{UnlessShort}
 use Rattle.cert_text.specs.declared.cert.Cert.{Cert}
 use Rattle.cert_text.specs.declared.cert.Cert.TheVariants.{Optimal as OptimalCert, Infeasible as InfeasibleCert, Unbounded as UnboundedCert}
 use Rattle.cert_text.specs.declared.cert.CertLine.{CertLine}
@@ -16,29 +17,27 @@ use Rattle.cert_text.specs.declared.read.Kind.TheVariants.{Optimal, Infeasible, 
 use Rattle.cert_text.specs.Spelling.{Word}
 use Rattle.cert_text.specs.Lines.{content, is_cut}
 use Rattle.cert_text.specs.Faults.{words, is_last}
-use Rattle.cert_text.specs.Reading.{Reading, ◌>>=◌, point_at, value_at, piece_at, ray_at, line_at, end_at}
+use Rattle.cert_text.specs.Texts.{found_by}
+use Rattle.cert_text.specs.Reading.{Reading, ◌>>=◌, kind_at, point_at, value_at, piece_at, ray_at, line_at, end_at}
 
 -- ---- what calls give: the value or the reason that reading gives, unless memory is short
 
-abbrev pub RefusesWords : {Y : Type 0} → Fault → Reading Y → Type 0
-RefusesWords (Memory e) read = Unit {0}
-RefusesWords (Of why) read = read ≡ Err why
+-- the reason of a fault, none where memory is short
+abbrev pub why_of : Fault → Option CertWhy
+why_of (Memory e) = None
+why_of (Of why) = Some why
 
 abbrev pub Reads : {X Y : Type 0} → (X → Y) → Result X Fault → Reading Y → Type 0
 Reads view (Ok x) read = read ≡ Ok (view x)
-Reads view (Err fault) read = RefusesWords fault read
+Reads view (Err fault) read = UnlessShort why_of (λ why. read ≡ Err why) fault
 
 -- a value, or the number of a content line with its fault
 abbrev pub Found : Type 0 → Type 0
 Found X = Result X (ℕ × CertWhy)
 
-abbrev pub RefusesLines : {Y : Type 0} → CertFault → Found Y → Type 0
-RefusesLines (NoMemory e) found = Unit {0}
-RefusesLines (At line why) found = found ≡ Err (line, why)
-
 abbrev pub Finds : {X Y : Type 0} → (X → Y) → Result X CertFault → Found Y → Type 0
 Finds view (Ok x) found = found ≡ Ok (view x)
-Finds view (Err fault) found = RefusesLines fault found
+Finds view (Err fault) found = UnlessShort found_by (λ why. found ≡ Err why) fault
 
 -- ---- the content lines that are left, behind those that were taken
 
@@ -101,16 +100,10 @@ head_of left (line ∷ lines) = if bytes_eq line (codes "lpcc-certificate 1") th
 unfoldable pub head_step : Left → Found Left
 head_step left = head_of left left.lines
 
-unfoldable pub kind_in : List ℕ → Reading Kind
-kind_in line =
-    if bytes_eq line (codes "optimal") then Ok Optimal else
-    if bytes_eq line (codes "infeasible") then Ok Infeasible else
-    if bytes_eq line (codes "unbounded") then Ok Unbounded else Err BadLine
-
 unfoldable pub kind_step : Left → Found (Kind × Left)
 kind_step left = do
   line ← whole_line left
-  kind ← at line.1.taken (kind_in line.0)
+  kind ← at line.1.taken (kind_at line.0)
   Ok (kind, line.1)
 
 -- one more no-good line behind n of them, or none at the last line

@@ -1,5 +1,6 @@
 -- Which certificate a text spells, and which fault is its first.
-use Rattle.std.specs.Prelude.{◌≡◌, ◌+◌, ◌^◌, ◌<◌, ◌⊎◌, ℕ, Bool, false, List, [], ◌∷◌, ◌++◌, length, Some, None, Result, Ok, Err}
+use Rattle.std.specs.Prelude.{◌≡◌, ◌+◌, ◌^◌, ◌<◌, ◌⊎◌, ℕ, Bool, false, List, [], ◌∷◌, ◌++◌, length, Option, Some, None}
+use Rattle.lp_base.specs.Answers.{UnlessShort}
 use Rattle.cert_text.specs.declared.cert.Cert.{Cert}
 use Rattle.cert_text.specs.declared.fault.CertWhy.{CertWhy}
 use Rattle.cert_text.specs.declared.fault.CertFault.{CertFault}
@@ -42,20 +43,11 @@ pub record EndFails (lines : List (List ℕ)) (cut : Bool) (number : ℕ) (why :
 abbrev pub Fails : List ℕ → ℕ → CertWhy → Type 0
 Fails text number why = FailsBehind [] (content text) number why ⊎ EndFails (content text) (is_cut text) number why
 
--- a call's fault is the text's first, unless memory is short
+-- the content line and the fault that a call names, none where memory is short
+abbrev pub found_by : CertFault → Option (ℕ × CertWhy)
+found_by (NoMemory e) = None
+found_by (At line why) = Some (line, why)
+
+-- the fault that a call names is the text's first, unless memory is short
 abbrev pub FailsAs : CertFault → List ℕ → Type 0
-FailsAs (NoMemory e) text = Unit {0}
-FailsAs (At line why) text = Fails text line why
-
--- a certificate, or the number of a content line with its fault
-abbrev pub Answer : Type 0
-Answer = Result Cert (ℕ × CertWhy)
-
--- what a call gives is the answer, unless memory is short
-abbrev pub Refuses : CertFault → Answer → Type 0
-Refuses (NoMemory e) answer = Unit {0}
-Refuses (At line why) answer = answer ≡ Err (line, why)
-
-abbrev pub Gives : Result Cert CertFault → Answer → Type 0
-Gives (Ok cert) answer = answer ≡ Ok cert
-Gives (Err fault) answer = Refuses fault answer
+FailsAs fault text = UnlessShort found_by (λ found. Fails text found.0 found.1) fault

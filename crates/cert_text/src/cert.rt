@@ -31,19 +31,24 @@ pub struct CertPoint {
     pub terms: Sequence<(u32, i64)>,
 }
 
-/// A no-good with its reason: a ray cut or a point cut with multipliers on constraints, or hints,
-/// the numbers of earlier lines over which its unit propagation closes.
+/// A no-good with its reason.
 #[derive(Drop)]
 pub enum CertLine {
+    /// A ray cut: with the no-good's choices tight no point is feasible, and the multipliers on the
+    /// constraints are a Farkas certificate of it.
     Ray {
         ng: NoGood,
         mult: Sequence<(u32, i64)>,
     },
+    /// A point cut: with the no-good's choices tight the multipliers, over `e`, give a dual bound on
+    /// the cost.
     Point {
         ng: NoGood,
         e: i64,
         mult: Sequence<(u32, i64)>,
     },
+    /// A derived no-good: unit propagation over the earlier lines of these numbers, in their order,
+    /// closes.
     Derived {
         ng: NoGood,
         hints: Sequence<u64>,

@@ -7,7 +7,7 @@ ghost use Rattle.cert_text.specs.Steps.{Reads};
 
 use crate::CertWhy;
 use crate::split::Split;
-use crate::words::{Fault, choice_of, factor_of, hint_of, number_of};
+use crate::words::{Fault, parse_choice, parse_factor, parse_hint, parse_number};
 use lp_base::Sequence;
 use nogoods::{Choice, NoGood};
 use std::alloc::{AllocError, Global};
@@ -36,7 +36,7 @@ pub fn parse_first<'a>(words: &mut Split<'a>) -> Result<&'a [u8], Fault>
 
 /// No word is left.
 #[tactic(auto, unfolding(crate::specs::Reading::ended))]
-pub fn parse_end(words: &mut Split) -> Result<(), Fault>
+pub fn parse_line_end(words: &mut Split) -> Result<(), Fault>
     ensures { Reads (λ _. words.new) result (ended words.old) }
 {
     match words.next() {
@@ -51,7 +51,7 @@ fn is_colon(word: &[u8]) -> bool
     word == b":".as_slice()
 }
 
-fn choices_of(alloc: Global, words: &mut Split) -> Result<Sequence<Choice>, Fault>
+fn parse_choices(alloc: Global, words: &mut Split) -> Result<Sequence<Choice>, Fault>
     ensures { Reads (λ choices. (choices, words.new)) result (choices_from 0 words.old) }
 {
     let mut choices = Sequence::new(alloc);
@@ -60,7 +60,7 @@ fn choices_of(alloc: Global, words: &mut Split) -> Result<Sequence<Choice>, Faul
         if is_colon(word) {
             return Ok(choices);
         }
-        let choice = choice_of(word, least)?;
+        let choice = parse_choice(word, least)?;
         least = choice.pair + 1;
         choices.push(choice)?;
     }
@@ -68,7 +68,7 @@ fn choices_of(alloc: Global, words: &mut Split) -> Result<Sequence<Choice>, Faul
 }
 
 // The no-good of choices that ascend.
-fn made(alloc: Global, choices: &[Choice]) -> Result<NoGood, AllocError>
+fn no_good_from(alloc: Global, choices: &[Choice]) -> Result<NoGood, AllocError>
     requires { IsTrue (pairs_ascend choices.now) }
     ensures { IfOk result (λ ng. ng ≡ choices.now) }
 {
@@ -79,20 +79,20 @@ fn made(alloc: Global, choices: &[Choice]) -> Result<NoGood, AllocError>
 }
 
 /// The choices of a line, up to its first colon.
-pub fn no_good_of(alloc: Global, words: &mut Split) -> Result<NoGood, Fault>
+pub fn parse_no_good(alloc: Global, words: &mut Split) -> Result<NoGood, Fault>
     ensures { Reads (λ ng. (ng, words.new)) result (choices_from 0 words.old) }
 {
-    let choices = choices_of(alloc, words)?;
-    Ok(made(alloc, choices.as_slice())?)
+    let choices = parse_choices(alloc, words)?;
+    Ok(no_good_from(alloc, choices.as_slice())?)
 }
 
-fn last_choices_of(alloc: Global, words: &mut Split) -> Result<Sequence<Choice>, Fault>
+fn parse_last_choices(alloc: Global, words: &mut Split) -> Result<Sequence<Choice>, Fault>
     ensures { Reads (λ choices. choices) result (last_choices_from 0 words.old) }
 {
     let mut choices = Sequence::new(alloc);
     let mut least = 0;
     while let Some(word) = words.next() {
-        let choice = choice_of(word, least)?;
+        let choice = parse_choice(word, least)?;
         least = choice.pair + 1;
         choices.push(choice)?;
     }
@@ -100,24 +100,24 @@ fn last_choices_of(alloc: Global, words: &mut Split) -> Result<Sequence<Choice>,
 }
 
 /// The choices that are left on a line.
-pub fn last_no_good_of(alloc: Global, words: &mut Split) -> Result<NoGood, Fault>
+pub fn parse_last_no_good(alloc: Global, words: &mut Split) -> Result<NoGood, Fault>
     ensures { Reads (λ ng. ng) result (last_choices_from 0 words.old) }
 {
-    let choices = last_choices_of(alloc, words)?;
-    Ok(made(alloc, choices.as_slice())?)
+    let choices = parse_last_choices(alloc, words)?;
+    Ok(no_good_from(alloc, choices.as_slice())?)
 }
 
-fn each_term_of(alloc: Global, words: &mut Split) -> Result<Sequence<(u32, i64)>, Fault>
+fn parse_each_term(alloc: Global, words: &mut Split) -> Result<Sequence<(u32, i64)>, Fault>
     ensures { Reads (λ terms. terms) result (terms_from 0 words.old) }
 {
     let mut terms = Sequence::new(alloc);
     let mut least = 0;
     while let Some(word) = words.next() {
-        let number = number_of(word, least)?;
+        let number = parse_number(word, least)?;
         let Some(word) = words.next() else {
             return Err(Fault::Of(CertWhy::BadLine));
         };
-        let factor = factor_of(word)?;
+        let factor = parse_factor(word)?;
         least = number + 1;
         terms.push((number, factor))?;
     }
@@ -125,27 +125,27 @@ fn each_term_of(alloc: Global, words: &mut Split) -> Result<Sequence<(u32, i64)>
 }
 
 /// The terms that are left on a line, their numbers ascending, in no more memory than they need.
-pub fn terms_of(alloc: Global, words: &mut Split) -> Result<Sequence<(u32, i64)>, Fault>
+pub fn parse_terms(alloc: Global, words: &mut Split) -> Result<Sequence<(u32, i64)>, Fault>
     ensures { Reads (λ terms. terms) result (terms_from 0 words.old) }
 {
-    let terms = each_term_of(alloc, words)?;
+    let terms = parse_each_term(alloc, words)?;
     Ok(terms.copy(alloc)?)
 }
 
-fn each_hint_of(alloc: Global, words: &mut Split) -> Result<Sequence<u64>, Fault>
+fn parse_each_hint(alloc: Global, words: &mut Split) -> Result<Sequence<u64>, Fault>
     ensures { Reads (λ hints. hints) result (hints_at words.old) }
 {
     let mut hints = Sequence::new(alloc);
     while let Some(word) = words.next() {
-        hints.push(hint_of(word)?)?;
+        hints.push(parse_hint(word)?)?;
     }
     Ok(hints)
 }
 
 /// The hints that are left on a line, in no more memory than they need.
-pub fn hints_of(alloc: Global, words: &mut Split) -> Result<Sequence<u64>, Fault>
+pub fn parse_hints(alloc: Global, words: &mut Split) -> Result<Sequence<u64>, Fault>
     ensures { Reads (λ hints. hints) result (hints_at words.old) }
 {
-    let hints = each_hint_of(alloc, words)?;
+    let hints = parse_each_hint(alloc, words)?;
     Ok(hints.copy(alloc)?)
 }

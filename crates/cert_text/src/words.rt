@@ -50,7 +50,7 @@ fn with_digit(value: u128, byte: u8) -> Result<u128, CertWhy>
     Ok(value * 10 + u128::from(byte - b'0'))
 }
 
-fn digits_of(word: &[u8]) -> Result<u128, CertWhy>
+fn parse_digits(word: &[u8]) -> Result<u128, CertWhy>
     ensures value { result ≡ capped_digits_at word.now }
     ensures small { IfOk result (λ n. n ≤ most) }
 {
@@ -62,14 +62,14 @@ fn digits_of(word: &[u8]) -> Result<u128, CertWhy>
 }
 
 #[tactic(auto, unfolding(crate::specs::Reading::natural_at))]
-fn natural_of(word: &[u8]) -> Result<u128, CertWhy>
+fn parse_natural(word: &[u8]) -> Result<u128, CertWhy>
     ensures value { result ≡ capped_natural_at word.now }
     ensures small { IfOk result (λ n. n ≤ most) }
 {
     match word {
         [] => Err(CertWhy::BadLine),
         [b'0', _, ..] => Err(CertWhy::BadLine),
-        _ => digits_of(word),
+        _ => parse_digits(word),
     }
 }
 
@@ -84,23 +84,23 @@ fn below_zero(size: u128) -> Result<i128, CertWhy>
     Ok(-(size as i128))
 }
 
-fn negative_of(word: &[u8]) -> Result<i128, CertWhy>
+fn parse_negative(word: &[u8]) -> Result<i128, CertWhy>
     ensures value { result ≡ negative_at word.now }
     ensures small { IfOk result (λ z. unsigned_abs z ≤ most) }
 {
-    let size = natural_of(word)?;
+    let size = parse_natural(word)?;
     below_zero(size)
 }
 
-fn nonnegative_of(word: &[u8]) -> Result<i128, CertWhy>
+fn parse_nonnegative(word: &[u8]) -> Result<i128, CertWhy>
     ensures value { result ≡ nonnegative_at word.now }
     ensures small { IfOk result (λ z. unsigned_abs z ≤ most) }
 {
-    let size = natural_of(word)?;
+    let size = parse_natural(word)?;
     Ok(size as i128)
 }
 
-fn whole_of(word: &[u8]) -> Result<i128, CertWhy>
+fn parse_whole(word: &[u8]) -> Result<i128, CertWhy>
     ensures value { result ≡ capped_whole_at word.now }
     ensures small { IfOk result (λ z. unsigned_abs z ≤ most) }
 {
@@ -108,9 +108,9 @@ fn whole_of(word: &[u8]) -> Result<i128, CertWhy>
         return Err(CertWhy::BadLine);
     };
     if *first == b'-' {
-        return negative_of(digits);
+        return parse_negative(digits);
     }
-    nonnegative_of(word)
+    parse_nonnegative(word)
 }
 
 fn counted(greatest: u64, number: u128) -> Result<u64, CertWhy>
@@ -128,11 +128,11 @@ fn counted(greatest: u64, number: u128) -> Result<u64, CertWhy>
 
 /// A number from 1 to the greatest, counted from 0.
 #[tactic(auto, using(crate::proofs::Caps::index_err, crate::proofs::Caps::index_ok))]
-pub fn index_of(word: &[u8], greatest: u64) -> Result<u64, CertWhy>
+pub fn parse_index(word: &[u8], greatest: u64) -> Result<u64, CertWhy>
     ensures index { result ≡ index_at greatest word.now }
     ensures below { IfOk result (λ n. n < greatest) }
 {
-    let number = natural_of(word)?;
+    let number = parse_natural(word)?;
     counted(greatest, number)
 }
 
@@ -150,10 +150,10 @@ fn positive(number: u128) -> Result<i64, CertWhy>
 
 /// A number from 1 to 2^63 - 1.
 #[tactic(auto, using(crate::proofs::Caps::positive_err, crate::proofs::Caps::positive_ok))]
-pub fn positive_of(word: &[u8]) -> Result<i64, CertWhy>
+pub fn parse_positive(word: &[u8]) -> Result<i64, CertWhy>
     ensures { result ≡ positive_at word.now }
 {
-    let number = natural_of(word)?;
+    let number = parse_natural(word)?;
     positive(number)
 }
 
@@ -172,11 +172,11 @@ fn factor(number: i128) -> Result<i64, CertWhy>
 
 /// A number that is not zero, of at most 2^63 - 1 in size.
 #[tactic(auto, using(crate::proofs::Caps::factor_err, crate::proofs::Caps::factor_ok))]
-pub fn factor_of(word: &[u8]) -> Result<i64, CertWhy>
+pub fn parse_factor(word: &[u8]) -> Result<i64, CertWhy>
     ensures value { result ≡ factor_at word.now }
     ensures narrow { IfOk result (λ z. IsNarrow z) }
 {
-    let number = whole_of(word)?;
+    let number = parse_whole(word)?;
     factor(number)
 }
 
@@ -191,10 +191,10 @@ fn cost_value(number: i128) -> Result<i128, CertWhy>
 
 /// A number of at most 2^126 in size.
 #[tactic(auto, using(crate::proofs::Caps::cost_value_err, crate::proofs::Caps::cost_value_ok))]
-pub fn cost_value_of(word: &[u8]) -> Result<i128, CertWhy>
+pub fn parse_cost_value(word: &[u8]) -> Result<i128, CertWhy>
     ensures { result ≡ cost_value_at word.now }
 {
-    let number = whole_of(word)?;
+    let number = parse_whole(word)?;
     cost_value(number)
 }
 
@@ -216,14 +216,14 @@ fn count(lines: u64, number: i128) -> Result<u64, CertWhy>
 
 /// The number of no-good lines, which is known.
 #[tactic(auto, using(crate::proofs::Caps::count_err, crate::proofs::Caps::count_ok))]
-pub fn count_of(word: &[u8], lines: u64) -> Result<u64, CertWhy>
+pub fn parse_count(word: &[u8], lines: u64) -> Result<u64, CertWhy>
     ensures { result ≡ count_at lines word.now }
 {
-    let number = whole_of(word)?;
+    let number = parse_whole(word)?;
     count(lines, number)
 }
 
-fn side_of(letter: u8) -> Option<Side>
+fn parse_side(letter: u8) -> Option<Side>
     ensures { result ≡ side_at letter }
 {
     match letter {
@@ -250,7 +250,7 @@ fn chosen(least: u32, side: Option<Side>, pair: Result<u64, CertWhy>) -> Result<
 
 /// A choice: the pair's number, and the letter of its side. The pair is at least the least one.
 #[tactic(auto, unfolding(crate::specs::Reading::choice_at))]
-pub fn choice_of(word: &[u8], least: u32) -> Result<Choice, CertWhy>
+pub fn parse_choice(word: &[u8], least: u32) -> Result<Choice, CertWhy>
     ensures value { result ≡ choice_at least word.now }
     ensures below { IfOk result (λ c. c.pair < MOST_PAIRS) }
 {
@@ -263,16 +263,20 @@ pub fn choice_of(word: &[u8], least: u32) -> Result<Choice, CertWhy>
     let Some((letter, number)) = word.split_last() else {
         return Err(CertWhy::BadLine);
     };
-    chosen(least, side_of(*letter), index_of(number, MOST_PAIRS as u64))
+    chosen(
+        least,
+        parse_side(*letter),
+        parse_index(number, MOST_PAIRS as u64),
+    )
 }
 
 /// The number of a column or a constraint, at least the least one.
 #[tactic(auto, unfolding(crate::specs::Reading::number_at))]
-pub fn number_of(word: &[u8], least: u32) -> Result<u32, CertWhy>
+pub fn parse_number(word: &[u8], least: u32) -> Result<u32, CertWhy>
     ensures number { result ≡ number_at least word.now }
     ensures below { IfOk result (λ n. n < 2 ^ 32 - 1) }
 {
-    let number = index_of(word, u64::from(u32::MAX))? as u32;
+    let number = parse_index(word, u64::from(u32::MAX))? as u32;
     if number < least {
         return Err(CertWhy::BadLine);
     }
@@ -281,8 +285,8 @@ pub fn number_of(word: &[u8], least: u32) -> Result<u32, CertWhy>
 
 /// The number of a no-good line, counted from 0.
 #[tactic(auto, unfolding(crate::specs::Reading::hint_at))]
-pub fn hint_of(word: &[u8]) -> Result<u64, CertWhy>
+pub fn parse_hint(word: &[u8]) -> Result<u64, CertWhy>
     ensures { result ≡ hint_at word.now }
 {
-    index_of(word, LARGEST_WORD as u64)
+    parse_index(word, LARGEST_WORD as u64)
 }

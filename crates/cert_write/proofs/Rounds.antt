@@ -1,13 +1,14 @@
 -- A text that was written is read as the certificate that it was written from.
 use Rattle.std.proofs.Common.{ℕ, ◌+◌, ◌-◌, ◌^◌, ◌≤◌, ◌<◌, ◌≡◌, sym, subst, arith, List, [], ◌∷◌, ◌++◌, length, map, Result, Ok}
 use Rattle.std.proofs.lemmas.List.{length-append, length-map}
+use Rattle.lp_base.specs.Answers.{Gives}
 use Rattle.cert_text.specs.declared.cert.Cert.{Cert}
 use Rattle.cert_text.specs.declared.cert.Cert.TheVariants.{Optimal, Infeasible, Unbounded}
 use Rattle.cert_text.specs.declared.cert.CertLine.{CertLine}
 use Rattle.cert_text.specs.declared.fault.CertFault.{CertFault}
 use Rattle.cert_text.specs.Certs.{KeepsForm, lines_of}
 use Rattle.cert_text.specs.Spelling.{Word, cert_lines, cert_words, end_words, line_bytes, line_words, log_words, spelling, text_of}
-use Rattle.cert_text.specs.Texts.{Gives, Spells}
+use Rattle.cert_text.specs.Texts.{Spells, found_by}
 use Rattle.cert_text.proofs.Certificates.{spelling_spells}
 
 -- each line has a byte of its own
@@ -27,7 +28,7 @@ words_enough (Unbounded piece point ray) = omega arith
 few_lines : (cert : Cert) → length (lines_of cert) ≤ length (spelling cert)
 few_lines cert = omega (arith, words_enough cert, length-map (cert_words cert) line_bytes, lines_within (cert_lines cert))
 
-pub given_back : (cert : Cert) (text : List ℕ) (read : Result Cert CertFault) → KeepsForm cert → length (spelling cert) < 2 ^ 32 - 1 → text ≡ spelling cert → ((c : Cert) → Spells text c → Gives read (Ok c)) → Gives read (Ok cert)
+pub given_back : (cert : Cert) (text : List ℕ) (read : Result Cert CertFault) → KeepsForm cert → length (spelling cert) < 2 ^ 32 - 1 → text ≡ spelling cert → ((c : Cert) → Spells text c → Gives found_by c read) → Gives found_by cert read
 given_back cert text read form room written reads =
     let few : length (lines_of cert) < 2 ^ 64 = omega (arith, few_lines cert, room) in
     reads cert (subst (λ (t : List ℕ). Spells t cert) (sym written) (spelling_spells cert form few))

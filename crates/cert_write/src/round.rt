@@ -2,7 +2,8 @@
 ghost use Rattle.std.specs.Prelude.{◌<◌, ◌-◌, ◌^◌, Ok, length};
 ghost use Rattle.cert_text.specs.Certs.{KeepsForm};
 ghost use Rattle.cert_text.specs.Spelling.{spelling};
-ghost use Rattle.cert_text.specs.Texts.{Gives};
+ghost use Rattle.cert_text.specs.Texts.{found_by};
+ghost use Rattle.lp_base.specs.Answers.{Gives};
 
 use crate::write_cert;
 use cert_text::{Cert, CertFault, read_cert};
@@ -12,7 +13,7 @@ use std::alloc::Global;
 pub fn write_and_read(alloc: Global, cert: &Cert) -> Result<Cert, CertFault>
     requires form { KeepsForm cert.now }
     requires room { length (spelling cert.now) < 2 ^ 32 - 1 }
-    ensures { Gives result (Ok cert.now) }
+    ensures { Gives found_by cert.now result }
 {
     let text = write_cert(alloc, cert)?;
     read_cert(alloc, &text)

@@ -8,10 +8,10 @@ returns-in_err-entry c =
     rw (p.1, p.2) (log_refused c.in_err-entry.field-0.0 c.loop-log.log c.len.result c.loop-log.lines _ c.len.ensures c.in_err-entry.ensures c.loop-log.invariant)
 
 pub loop-log-smaller : goal.loop-log-smaller
-loop-log-smaller c = entry_shorter c.len.result c.loop-log.lines c.parse_entry.new.lines c.in_ok-entry.field-0 c.in_ok-entry.ensures
+loop-log-smaller c = entry_shorter c.len.result c.loop-log.lines c.parse_entry_line.new.lines c.in_ok-entry.field-0 c.in_ok-entry.ensures
 
 pub loop-log-preserved : goal.loop-log-preserved
-loop-log-preserved c = log_goes_on c.loop-log.log c.len.result c.loop-log.lines c.parse_entry.new.lines c.in_ok-entry.field-0 c.in-Some.entry c.push.new.self _ c.len.ensures c.in_ok-entry.ensures c.in-Some.is c.in_ok-push.ensures.ok c.loop-log.invariant
+loop-log-preserved c = log_goes_on c.loop-log.log c.len.result c.loop-log.lines c.parse_entry_line.new.lines c.in_ok-entry.field-0 c.in-Some.entry c.push.new.self _ c.len.ensures c.in_ok-entry.ensures c.in-Some.is c.in_ok-push.ensures.ok c.loop-log.invariant
 
 pub returns : goal.returns
-returns c = log_ends c.loop-log.log c.len.result c.loop-log.lines c.parse_entry.new.lines c.in_ok-entry.field-0 _ c.len.ensures c.in_ok-entry.ensures c.in_default.is c.loop-log.invariant
+returns c = log_ends c.loop-log.log c.len.result c.loop-log.lines c.parse_entry_line.new.lines c.in_ok-entry.field-0 _ c.len.ensures c.in_ok-entry.ensures c.in_default.is c.loop-log.invariant

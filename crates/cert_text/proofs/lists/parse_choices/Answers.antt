@@ -1,6 +1,6 @@
 use Rattle.std.proofs.Common.{sym, rules}
 use Rattle.cert_text.proofs.Going.{choices_close, choices_refused, choices_go_on, choices_stop}
-use Rattle.cert_text.proofs.lists.choices_of.Goals as goal
+use Rattle.cert_text.proofs.lists.parse_choices.Goals as goal
 
 pub returns-then-is_colon : goal.returns-then-is_colon
 returns-then-is_colon c = choices_close c.loop-word.choices c.loop-word.least c.loop-word.words c.in-Some.word.now c.next.new.self _ c.in-Some.ensures (sym c.if-is_colon.ensures) c.loop-word.invariant

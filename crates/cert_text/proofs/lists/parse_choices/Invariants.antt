@@ -1,7 +1,7 @@
 use Rattle.std.proofs.Common.{◌≡◌, length}
 use Rattle.cert_text.specs.Reading.{choices_from}
 use Rattle.cert_text.proofs.Going.{onto_first}
-use Rattle.cert_text.proofs.lists.choices_of.Given as goal
+use Rattle.cert_text.proofs.lists.parse_choices.Given as goal
 
 abbrev pub invariant-loop-word : goal.invariant-loop-word
 invariant-loop-word l = onto_first l.choices (choices_from l.least l.words) ≡ choices_from 0 l.fn.words

@@ -1,6 +1,6 @@
 use Rattle.std.proofs.Common.{rules}
 use Rattle.cert_text.proofs.Going.{last_choices_refused, last_choices_go_on, last_choices_stop}
-use Rattle.cert_text.proofs.lists.last_choices_of.Goals as goal
+use Rattle.cert_text.proofs.lists.parse_last_choices.Goals as goal
 
 pub returns-in_err-choice : goal.returns-in_err-choice
 returns-in_err-choice c =

@@ -3,7 +3,7 @@ use Rattle.std.proofs.lemmas.Int.{fits_signed_from_abs}
 use Rattle.lp_base.proofs.Machine.{again_64}
 use mir.Syntax.{w64}
 use Rattle.cert_text.proofs.Going.{number_refused, terms_cut, factor_refused, terms_go_on, terms_stop}
-use Rattle.cert_text.proofs.lists.each_term_of.Goals as goal
+use Rattle.cert_text.proofs.lists.parse_each_term.Goals as goal
 
 pub returns-in_err-number : goal.returns-in_err-number
 returns-in_err-number c = search (rules, number_refused c.loop-word.terms c.loop-word.least c.loop-word.words c.next.new.self c.in-Some.word.now _ _ c.in-Some.ensures c.in_err-number.ensures.number c.loop-word.invariant)

@@ -1,6 +1,6 @@
 use Rattle.std.proofs.Common.{rules}
 use Rattle.cert_text.proofs.Caps.{digit_refused, digits_end}
-use Rattle.cert_text.proofs.words.digits_of.Goals as goal
+use Rattle.cert_text.proofs.words.parse_digits.Goals as goal
 
 pub returns-in_err-value-clause-value : goal.returns-in_err-value-clause-value
 returns-in_err-value-clause-value c = search (rules, digit_refused c.loop-byte.value c.loop-byte.byte-index c.args.word.now _ c.loop-byte-test.true c.in_err-value.ensures.value c.loop-byte.invariant.0)
