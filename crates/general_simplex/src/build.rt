@@ -4,15 +4,16 @@ use crate::columns::{ColumnBounds, Columns};
 use crate::dictionary::Simplex;
 use lp_base::product;
 use lpcc_case::{Case, Constraint, Kind};
-use simplex_rows::{Bound, Row, Scale, Variable, common_multiple, narrow, quotient};
+use simplex_numbers::Number;
+use simplex_rows::{Bound, Row, Scale, Variable, common_multiple};
 use std::alloc::{AllocError, Global};
 
-fn zeros(alloc: Global, columns: usize) -> Result<Vec<i64>, AllocError> {
-    let mut entries = Vec::with_capacity(alloc, columns)?;
-    for _ in 0..columns {
-        entries.push(0_i64)?;
+fn repeated<T: Copy + Drop>(alloc: Global, value: T, times: usize) -> Result<Vec<T>, AllocError> {
+    let mut list = Vec::with_capacity(alloc, times)?;
+    for _ in 0..times {
+        list.push(value)?;
     }
-    Ok(entries)
+    Ok(list)
 }
 
 fn scale_of(bounds: &[ColumnBounds], j: usize) -> Scale {
@@ -33,35 +34,35 @@ fn denominator(bounds: &[ColumnBounds], terms: &[(u32, i64)]) -> Option<i64> {
 }
 
 /// Fills a row, and gives its constant and its denominator. None where a number does not fit.
-fn fill(
-    entries: &mut [i64],
+fn fill<N: Number>(
+    entries: &mut [N],
     bounds: &[ColumnBounds],
     terms: &[(u32, i64)],
     constant: i64,
-) -> Option<(i64, i64)> {
+) -> Option<(N, N)> {
     let den = denominator(bounds, terms)?;
     let mut sum = product(constant, den);
     for term in terms {
         let j = term.0 as usize;
         let scale = scale_of(bounds, j);
-        let entry = narrow(product(term.1, quotient(den, scale.scale)))?;
+        let entry = i64::of_wide(product(term.1, den.checked_div(scale.scale)?))?;
         if j < entries.len() {
-            entries[j] = entry;
+            entries[j] = N::of(entry);
         }
         sum = sum.checked_add(product(entry, scale.shift))?;
     }
-    Some((narrow(sum)?, den))
+    Some((N::of_wide(sum)?, N::of(den)))
 }
 
 /// The row of terms and a constant. None where a number does not fit.
-fn row_of(
+fn row_of<N: Number>(
     alloc: Global,
     bounds: &[ColumnBounds],
     terms: &[(u32, i64)],
     constant: i64,
     variable: usize,
-) -> Result<Option<Row>, AllocError> {
-    let mut entries = zeros(alloc, bounds.len())?;
+) -> Result<Option<Row<N>>, AllocError> {
+    let mut entries = repeated(alloc, N::of(0), bounds.len())?;
     let Some((constant, den)) = fill(entries.as_mut_slice(), bounds, terms, constant) else {
         return Ok(None);
     };
@@ -69,8 +70,8 @@ fn row_of(
         entries,
         constant,
         den,
-        magnitude: 0,
-        reduced_magnitude: 0,
+        magnitude: N::of(0),
+        reduced_magnitude: N::of(0),
         variable,
     };
     row.reduce();
@@ -95,9 +96,9 @@ fn slack_of(constraint: &Constraint, k: usize) -> Variable {
     }
 }
 
-fn count(counts: &mut [i64], entries: &[i64]) {
+fn count<N: Number>(counts: &mut [i64], entries: &[N]) {
     for (k, x) in entries.iter().enumerate() {
-        if k < counts.len() && *x != 0 {
+        if k < counts.len() && !x.is_zero() {
             counts[k] = counts[k].wrapping_add(1);
         }
     }
@@ -115,27 +116,27 @@ fn cost_terms(alloc: Global, cost: &[i64]) -> Result<Vec<(u32, i64)>, AllocError
     Ok(terms)
 }
 
-impl Simplex {
+impl<N: Number> Simplex<N> {
     /// A dictionary of columns without rows.
-    fn of_columns(alloc: Global, bounds: &[ColumnBounds]) -> Result<Simplex, AllocError> {
+    fn of_columns(alloc: Global, bounds: &[ColumnBounds]) -> Result<Simplex<N>, AllocError> {
         let columns = bounds.len();
         let mut variables = Vec::with_capacity(alloc, columns)?;
         let mut nonbasic = Vec::with_capacity(alloc, columns)?;
         let mut scales = Vec::with_capacity(alloc, columns)?;
-        let mut wide = Vec::with_capacity(alloc, columns)?;
+        let mut products = Vec::with_capacity(alloc, columns)?;
         for (j, own) in bounds.iter().enumerate() {
             variables.push(variable_of(*own, j))?;
             nonbasic.push(j)?;
             scales.push(own.scale)?;
-            wide.push(0_i128)?;
+            products.push(N::of(0).product(N::of(0)))?;
         }
         Ok(Simplex {
             rows: Vec::new(alloc),
             variables,
             nonbasic,
-            counts: zeros(alloc, columns)?,
+            counts: repeated(alloc, 0, columns)?,
             terms: Vec::with_capacity(alloc, columns)?,
-            wide,
+            products,
             scales,
             bounds: Vec::new(alloc),
             cost: 0,
@@ -147,7 +148,7 @@ impl Simplex {
     }
 
     /// Adds a basic variable with its row.
-    fn add_row(&mut self, made: Option<Row>, variable: Variable) -> Result<(), AllocError> {
+    fn add_row(&mut self, made: Option<Row<N>>, variable: Variable) -> Result<(), AllocError> {
         let Some(row) = made else {
             self.overflowed = true;
             return Ok(());
@@ -208,7 +209,7 @@ impl Simplex {
     }
 
     /// The dictionary of a case at its start, with no limit, nothing held but the equations.
-    pub fn of_case(alloc: Global, case: &Case) -> Result<Simplex, AllocError> {
+    pub fn of_case(alloc: Global, case: &Case) -> Result<Simplex<N>, AllocError> {
         let columns = Columns::of_case(alloc, case)?;
         let bounds = columns.bounds.as_slice();
         let mut made = Simplex::of_columns(alloc, bounds)?;

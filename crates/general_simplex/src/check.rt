@@ -3,6 +3,7 @@
 use crate::dictionary::Simplex;
 use crate::entering::entering_column;
 use crate::leaving::{PivotRule, leaving_row};
+use simplex_numbers::Number;
 use std::alloc::AllocError;
 
 /// After as many pivots for each row and column Bland's rule is taken, by which the walk ends.
@@ -24,7 +25,7 @@ pub enum Feasibility {
     Unknown,
 }
 
-impl Simplex {
+impl<N: Number> Simplex<N> {
     /// A variable that is held at both of its bounds, which lie apart.
     fn bounds_conflict(&self) -> Option<usize> {
         for constraint in self.held.as_slice() {

@@ -1,13 +1,14 @@
 //! The standing dictionary with its marks.
 
+use simplex_numbers::Number;
 use simplex_rows::{Bound, Limit, Row, Scale, Variable, variable_at};
 use std::alloc::AllocError;
 
-/// A standing dictionary of a case, with the constraints that are held with equality and the limit
+/// A standing dictionary of a case in numbers of one width, with the constraints that are held with equality and the limit
 /// on the cost.
 #[derive(Drop)]
-pub struct Simplex {
-    pub(crate) rows: Vec<Row>,
+pub struct Simplex<N: Number> {
+    pub(crate) rows: Vec<Row<N>>,
     /// The columns of the case, the slacks of its constraints of several terms, and the cost.
     pub(crate) variables: Vec<Variable>,
     /// The variable of each column.
@@ -15,9 +16,9 @@ pub struct Simplex {
     /// In how many rows each column is not zero.
     pub(crate) counts: Vec<i64>,
     /// Room for the terms of the row that leaves.
-    pub(crate) terms: Vec<(usize, i64)>,
-    /// Room for one row.
-    pub(crate) wide: Vec<i128>,
+    pub(crate) terms: Vec<(usize, N)>,
+    /// Room for the products of one row.
+    pub(crate) products: Vec<N::Product>,
     /// The columns of the case.
     pub(crate) scales: Vec<Scale>,
     /// The constraints of the case.
@@ -52,7 +53,7 @@ fn mark(variables: &mut [Variable], bound: Bound, held: bool) {
     }
 }
 
-impl Simplex {
+impl<N: Number> Simplex<N> {
     /// Whether a number did not fit since the dictionary was made. It then answers nothing more.
     pub fn has_overflowed(&self) -> bool {
         self.overflowed

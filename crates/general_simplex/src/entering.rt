@@ -1,6 +1,7 @@
 //! The column whose variable is to enter: the one with the fewest rows.
 
 use crate::leaving::PivotRule;
+use simplex_numbers::Number;
 use simplex_rows::{Variable, variable_at};
 
 /// Whether the variable may move up, or else down.
@@ -28,8 +29,8 @@ fn key_of(variable: Variable, is_cost: bool, count: i64, bland: bool) -> i64 {
 /// The column by which the variable of a row with these entries can rise, or else fall: of those
 /// whose variable may move so, the one that is not zero in the fewest rows, and of these that of the
 /// least variable.
-pub fn entering_column(
-    entries: &[i64],
+pub fn entering_column<N: Number>(
+    entries: &[N],
     nonbasic: &[usize],
     variables: &[Variable],
     counts: &[i64],
@@ -38,12 +39,12 @@ pub fn entering_column(
 ) -> Option<usize> {
     let mut best: Option<(i64, usize, usize)> = None;
     for (j, entry) in entries.iter().enumerate() {
-        if *entry == 0 || j >= nonbasic.len() || j >= counts.len() {
+        if entry.is_zero() || j >= nonbasic.len() || j >= counts.len() {
             continue;
         }
         let number = nonbasic[j];
         let variable = variable_at(variables, number);
-        let up = (*entry > 0) == rise;
+        let up = entry.is_negative() != rise;
         if !may_move(variable, number == rule.cost, rule.limited, up) {
             continue;
         }

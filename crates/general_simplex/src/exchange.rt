@@ -1,34 +1,35 @@
 //! Pivots, and variables that are counted from their other bound.
 
 use crate::dictionary::Simplex;
+use simplex_numbers::Number;
 use simplex_rows::{PivotRow, Row, Variable};
 use std::alloc::AllocError;
 
 /// The terms of the row that leaves, but for that of the column.
-fn collect_terms(
-    terms: &mut Vec<(usize, i64)>,
-    entries: &[i64],
+fn collect_terms<N: Number>(
+    terms: &mut Vec<(usize, N)>,
+    entries: &[N],
     col: usize,
 ) -> Result<(), AllocError> {
     terms.clear();
     for (k, v) in entries.iter().enumerate() {
-        if *v != 0 && k != col {
+        if !v.is_zero() && k != col {
             terms.push((k, *v))?;
         }
     }
     Ok(())
 }
 
-fn eliminate_others(
-    rows: &mut [Row],
+fn eliminate_others<N: Number>(
+    rows: &mut [Row<N>],
     leaving: usize,
-    pivot: PivotRow,
-    terms: &[(usize, i64)],
+    pivot: PivotRow<N>,
+    terms: &[(usize, N)],
     counts: &mut [i64],
-    wide: &mut [i128],
+    products: &mut [N::Product],
 ) -> bool {
     for (i, row) in rows.iter_mut().enumerate() {
-        if i != leaving && !row.eliminate(pivot, terms, counts, wide) {
+        if i != leaving && !row.eliminate(pivot, terms, counts, products) {
             return false;
         }
     }
@@ -52,7 +53,7 @@ fn flip(variables: &mut [Variable], number: usize) {
     }
 }
 
-fn reflect_columns(rows: &mut [Row], col: usize, range: i64) -> bool {
+fn reflect_columns<N: Number>(rows: &mut [Row<N>], col: usize, range: i64) -> bool {
     for row in rows.iter_mut() {
         if row.reflect_column(col, range).is_none() {
             return false;
@@ -61,7 +62,7 @@ fn reflect_columns(rows: &mut [Row], col: usize, range: i64) -> bool {
     true
 }
 
-impl Simplex {
+impl<N: Number> Simplex<N> {
     fn overflow(&mut self) -> bool {
         self.overflowed = true;
         false
@@ -81,7 +82,7 @@ impl Simplex {
             magnitude: leaving.magnitude,
         };
         let left = leaving.variable;
-        if pivot.entry == 0 {
+        if pivot.entry.is_zero() {
             return Ok(self.overflow());
         }
         collect_terms(&mut self.terms, leaving.entries.as_slice(), col)?;
@@ -91,7 +92,7 @@ impl Simplex {
             pivot,
             self.terms.as_slice(),
             self.counts.as_mut_slice(),
-            self.wide.as_mut_slice(),
+            self.products.as_mut_slice(),
         );
         if !fits {
             return Ok(self.overflow());

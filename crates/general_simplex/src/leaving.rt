@@ -1,7 +1,8 @@
 //! The row whose variable is to leave: that of the largest violation.
 
-use lp_base::product;
+use simplex_numbers::Number;
 use simplex_rows::{Row, Variable, variable_at};
+use std::cmp::Ordering;
 
 /// How the variable of a row is to move. It is first counted from its other bound where `reflect`
 /// is set.
@@ -27,84 +28,81 @@ fn reflected(rise: bool) -> Option<Repair> {
     })
 }
 
-/// How far the variable stands above its other bound, times the denominator.
+/// Whether the variable stands below its other bound, at it, or above it.
 #[inline(always)]
-fn above_range(row: &Row, variable: Variable) -> i128 {
-    match variable.range {
-        Some(range) => i128::from(row.constant).wrapping_sub(product(range, row.den)),
-        None => -1,
+pub fn against_range<N: Number>(row: &Row<N>, variable: Variable) -> Ordering {
+    let Some(range) = variable.range else {
+        return Ordering::Less;
+    };
+    let top = N::of(range).product(row.den);
+    let above = N::difference(row.constant.product(N::of(1)), top);
+    if N::is_negative_product(above) {
+        Ordering::Less
+    } else if N::is_zero_product(above) {
+        Ordering::Equal
+    } else {
+        Ordering::Greater
     }
 }
 
 #[inline(always)]
-fn repair_of_held_there(row: &Row, variable: Variable, slope: i64) -> Option<Repair> {
-    let above = above_range(row, variable);
-    if above > 0 {
-        return reflected(true);
+fn repair_of_held_there<N: Number>(row: &Row<N>, variable: Variable, slope: N) -> Option<Repair> {
+    match against_range(row, variable) {
+        Ordering::Greater => return reflected(true),
+        Ordering::Less => return reflected(false),
+        Ordering::Equal => {},
     }
-    if above < 0 {
-        return reflected(false);
+    if !slope.is_zero() {
+        return reflected(slope.is_negative());
     }
-    if slope > 0 {
-        return reflected(false);
-    }
-    if slope < 0 {
-        return reflected(true);
-    }
-    if variable.is_held_here() && row.constant != 0 {
-        return here(row.constant < 0);
+    if variable.is_held_here() && !row.constant.is_zero() {
+        return here(row.constant.is_negative());
     }
     None
+}
+
+/// As `repair_of`, of a variable that stands above the bound that it is counted from.
+#[inline(always)]
+fn repair_of_above<N: Number>(row: &Row<N>, variable: Variable, slope: N) -> Option<Repair> {
+    if variable.is_held_here() {
+        return here(false);
+    }
+    if variable.range.is_none() {
+        return None;
+    }
+    match against_range(row, variable) {
+        Ordering::Greater => reflected(true),
+        Ordering::Equal if slope.is_negative() => reflected(true),
+        _ => None,
+    }
 }
 
 /// How the variable of a row is to move, if it violates a bound. `slope` is the row's entry at a
 /// cost that is not basic, which is to stand a little lower than it does.
 #[inline(always)]
-fn repair_of(row: &Row, variable: Variable, slope: i64) -> Option<Repair> {
+fn repair_of<N: Number>(row: &Row<N>, variable: Variable, slope: N) -> Option<Repair> {
     if variable.is_free() {
         return None;
     }
     if variable.is_held_there() {
         return repair_of_held_there(row, variable, slope);
     }
-    if row.constant < 0 {
+    if row.constant.is_negative() {
         return here(true);
     }
-    if row.constant > 0 {
-        if variable.is_held_here() {
-            return here(false);
-        }
-        if variable.range.is_none() {
-            return None;
-        }
-        let above = above_range(row, variable);
-        if above > 0 || (above == 0 && slope < 0) {
-            return reflected(true);
-        }
+    if !row.constant.is_zero() {
+        return repair_of_above(row, variable, slope);
+    }
+    if slope.is_zero() {
         return None;
     }
-    if slope > 0 {
+    if !slope.is_negative() {
         return here(true);
     }
-    if slope < 0 && variable.is_held_here() {
+    if variable.is_held_here() {
         return here(false);
     }
     None
-}
-
-/// How large the violation is, in thousandths.
-#[inline(always)]
-fn violation_of(row: &Row) -> u64 {
-    let size = row.constant.unsigned_abs();
-    let den = row.den.unsigned_abs();
-    if size < 1 << 53 {
-        return size.wrapping_mul(1000).checked_div(den).unwrap_or(0);
-    }
-    let large = u128::from(size)
-        .wrapping_mul(1000)
-        .checked_div(u128::from(den))
-        .unwrap_or(0);
-    u64::try_from(large).unwrap_or(u64::MAX)
 }
 
 /// The row whose variable is to leave.
@@ -130,9 +128,13 @@ pub struct PivotRule {
 }
 
 #[inline(always)]
-fn repair_by_rule(row: &Row, variables: &[Variable], rule: PivotRule) -> Option<Repair> {
+fn repair_by_rule<N: Number>(
+    row: &Row<N>,
+    variables: &[Variable],
+    rule: PivotRule,
+) -> Option<Repair> {
     if row.variable == rule.cost {
-        return if rule.limited && row.constant >= 0 {
+        return if rule.limited && !row.constant.is_negative() {
             here(false)
         } else {
             None
@@ -140,20 +142,28 @@ fn repair_by_rule(row: &Row, variables: &[Variable], rule: PivotRule) -> Option<
     }
     let slope = match rule.cost_column {
         Some(col) => row.entry(col),
-        None => 0,
+        None => N::of(0),
     };
     repair_of(row, variable_at(variables, row.variable), slope)
 }
 
 /// The row of the largest violation, and of these that of the least variable. None where no bound
 /// is violated.
-pub fn leaving_row(rows: &[Row], variables: &[Variable], rule: PivotRule) -> Option<Leaving> {
+pub fn leaving_row<N: Number>(
+    rows: &[Row<N>],
+    variables: &[Variable],
+    rule: PivotRule,
+) -> Option<Leaving> {
     let mut best: Option<Leaving> = None;
     for (i, row) in rows.iter().enumerate() {
         let Some(repair) = repair_by_rule(row, variables, rule) else {
             continue;
         };
-        let violation = if rule.bland { 0 } else { violation_of(row) };
+        let violation = if rule.bland {
+            0
+        } else {
+            row.constant.size().thousandths(row.den)
+        };
         let better = match best {
             None => true,
             Some(b) => {

@@ -2,7 +2,8 @@
 
 use crate::check::Feasibility;
 use crate::dictionary::Simplex;
-use simplex_rows::{Divisor, Row, Variable, gcd};
+use simplex_numbers::Number;
+use simplex_rows::{Row, Variable};
 use std::alloc::{AllocError, Global};
 
 /// Multipliers of constraints, whose numbers ascend, and the factor of the cost in their sum.
@@ -13,29 +14,7 @@ pub struct Multipliers {
     pub e: i64,
 }
 
-fn common_divisor(terms: &[(u32, i64)], e: i64) -> u64 {
-    let mut divisor = e.unsigned_abs();
-    for term in terms {
-        if divisor == 1 {
-            break;
-        }
-        divisor = gcd(divisor, term.1.unsigned_abs());
-    }
-    divisor
-}
-
 impl Multipliers {
-    fn reduce(&mut self) {
-        let common = common_divisor(self.terms.as_slice(), self.e);
-        if common > 1 {
-            let divisor = Divisor::of(common);
-            self.e = divisor.quotient(self.e);
-            for term in self.terms.iter_mut() {
-                term.1 = divisor.quotient(term.1);
-            }
-        }
-    }
-
     fn add(&mut self, variable: Variable, value: i64) -> Result<(), AllocError> {
         if let Some(constraint) = variable.constraint() {
             self.terms.push((constraint, value))?;
@@ -49,22 +28,34 @@ fn signed(value: i64, keep: bool) -> i64 {
     if keep { value } else { value.wrapping_neg() }
 }
 
-impl Simplex {
-    fn add_terms(&self, out: &mut Multipliers, row: &Row, keep: bool) -> Result<(), AllocError> {
+impl<N: Number> Simplex<N> {
+    /// Adds the terms of a row, divided, with their signs or with the opposite ones. False where one
+    /// does not fit.
+    fn add_terms(
+        &self,
+        out: &mut Multipliers,
+        row: &Row<N>,
+        divisor: N::Divisor,
+        keep: bool,
+    ) -> Result<bool, AllocError> {
         for (j, entry) in row.entries.iter().enumerate() {
-            if *entry != 0 && j < self.nonbasic.len() {
+            if !entry.is_zero() && j < self.nonbasic.len() {
+                let Some(value) = entry.divided(divisor).narrow() else {
+                    return Ok(false);
+                };
                 let number = self.nonbasic[j];
                 if number == self.cost {
-                    out.e = signed(*entry, !keep);
+                    out.e = signed(value, !keep);
                 } else {
-                    out.add(self.variable(number), signed(*entry, keep))?;
+                    out.add(self.variable(number), signed(value, keep))?;
                 }
             }
         }
-        Ok(())
+        Ok(true)
     }
 
-    /// The multipliers that a row shows whose variable cannot rise, or else fall.
+    /// The multipliers that a row shows whose variable cannot rise, or else fall, without a common
+    /// divisor. None where one does not fit.
     fn multipliers_of_row(
         &self,
         alloc: Global,
@@ -74,19 +65,24 @@ impl Simplex {
         let Some(row) = self.rows.get(row) else {
             return Ok(None);
         };
+        let divisor = row.divisor_of_multipliers().divisor();
+        let Some(own) = row.den.divided(divisor).narrow() else {
+            return Ok(None);
+        };
+        let is_cost = row.variable == self.cost;
         let mut out = Multipliers {
             terms: Vec::with_capacity(alloc, row.entries.len())?,
             e: 0,
         };
-        if row.variable == self.cost {
-            self.add_terms(&mut out, row, true)?;
-            out.e = row.den;
+        if !self.add_terms(&mut out, row, divisor, is_cost || !rise)? {
+            return Ok(None);
+        }
+        if is_cost {
+            out.e = own;
         } else {
-            out.add(self.variable(row.variable), signed(row.den, rise))?;
-            self.add_terms(&mut out, row, !rise)?;
+            out.add(self.variable(row.variable), signed(own, rise))?;
         }
         out.terms.sort()?;
-        out.reduce();
         Ok(Some(out))
     }
 

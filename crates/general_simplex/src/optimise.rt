@@ -1,8 +1,8 @@
 //! The cost, once the dictionary stands at a point: the simplex method with bounds.
 
 use crate::dictionary::Simplex;
-use lp_base::product;
-use simplex_rows::{Row, Variable, variable_at, wide_quotient};
+use simplex_numbers::Number;
+use simplex_rows::{Row, Variable, variable_at};
 use std::alloc::AllocError;
 
 /// What became of the cost.
@@ -18,68 +18,70 @@ pub enum Optimum {
 
 /// A row whose variable comes to a bound where that of a column moves by `constant / size`.
 #[derive(Clone, Copy)]
-struct Blocking {
+struct Blocking<N: Number> {
     row: usize,
     variable: usize,
     /// Whether it is the other bound than that which the variable is counted from.
     reflect: bool,
-    constant: i128,
-    size: i128,
+    constant: N,
+    size: N,
+}
+
+/// How far the variable of a row stands below its other bound, times the denominator, or the
+/// largest number.
+#[inline(always)]
+fn below_range<N: Number>(row: &Row<N>, range: i64) -> N {
+    let top = N::of(range).product(row.den);
+    N::of_product(N::difference(top, row.constant.product(N::of(1)))).unwrap_or(N::largest())
 }
 
 #[inline(always)]
-fn blocking_of(
+fn blocking_of<N: Number>(
     i: usize,
-    row: &Row,
+    row: &Row<N>,
     variable: Variable,
     col: usize,
     rise: bool,
-) -> Option<Blocking> {
+) -> Option<Blocking<N>> {
     let entry = row.entry(col);
-    if entry == 0 || variable.is_free() {
+    if entry.is_zero() || variable.is_free() {
         return None;
     }
-    let falls = (entry < 0) == rise;
+    let falls = entry.is_negative() == rise;
     let (reflect, constant) = if variable.is_held_here() {
-        (false, 0)
+        (false, N::of(0))
     } else if variable.is_held_there() {
-        (true, 0)
+        (true, N::of(0))
     } else if falls {
-        (false, i128::from(row.constant))
+        (false, row.constant)
     } else {
-        let range = product(variable.range?, row.den);
-        (true, range.wrapping_sub(i128::from(row.constant)))
+        (true, below_range(row, variable.range?))
     };
     Some(Blocking {
         row: i,
         variable: row.variable,
         reflect,
         constant,
-        size: i128::from(entry.unsigned_abs()),
+        size: entry.size(),
     })
 }
 
 #[inline(always)]
-fn is_sooner(a: Blocking, b: Blocking) -> bool {
-    match (
-        a.constant.checked_mul(b.size),
-        b.constant.checked_mul(a.size),
-    ) {
-        (Some(x), Some(y)) => x < y || (x == y && a.variable < b.variable),
-        _ => wide_quotient(a.constant, a.size) < wide_quotient(b.constant, b.size),
-    }
+fn is_sooner<N: Number>(a: &Blocking<N>, b: &Blocking<N>) -> bool {
+    let later = N::difference(a.constant.product(b.size), b.constant.product(a.size));
+    N::is_negative_product(later) || (N::is_zero_product(later) && a.variable < b.variable)
 }
 
 /// The ratio test: of the rows whose variable comes to a bound where that of the column rises, or
 /// else falls, the first.
-fn ratio_test(
-    rows: &[Row],
+fn ratio_test<N: Number>(
+    rows: &[Row<N>],
     variables: &[Variable],
     cost: usize,
     col: usize,
     rise: bool,
-) -> Option<Blocking> {
-    let mut best: Option<Blocking> = None;
+) -> Option<Blocking<N>> {
+    let mut best: Option<Blocking<N>> = None;
     for (i, row) in rows.iter().enumerate() {
         if row.variable == cost {
             continue;
@@ -88,9 +90,9 @@ fn ratio_test(
         let Some(blocking) = blocking_of(i, row, variable, col, rise) else {
             continue;
         };
-        let better = match best {
+        let better = match &best {
             None => true,
-            Some(b) => is_sooner(blocking, b),
+            Some(first) => is_sooner(&blocking, first),
         };
         if better {
             best = Some(blocking);
@@ -101,39 +103,39 @@ fn ratio_test(
 
 /// A column by which the cost falls, and whether its variable rises.
 #[derive(Clone, Copy)]
-struct Descent {
+struct Descent<N> {
     col: usize,
     rise: bool,
     variable: usize,
-    size: u64,
+    size: N,
 }
 
 /// The column of the largest entry in the row of the cost whose variable may move so that the cost
 /// falls; by Bland's rule that of the least variable.
-fn steepest(
-    entries: &[i64],
+fn steepest<N: Number>(
+    entries: &[N],
     nonbasic: &[usize],
     variables: &[Variable],
     bland: bool,
-) -> Option<Descent> {
-    let mut best: Option<Descent> = None;
+) -> Option<Descent<N>> {
+    let mut best: Option<Descent<N>> = None;
     for (j, entry) in entries.iter().enumerate() {
-        if *entry == 0 || j >= nonbasic.len() {
+        if entry.is_zero() || j >= nonbasic.len() {
             continue;
         }
         let number = nonbasic[j];
         let variable = variable_at(variables, number);
-        let rise = *entry < 0;
+        let rise = entry.is_negative();
         if !variable.is_free() && (!rise || variable.is_held_here()) {
             continue;
         }
-        let size = entry.unsigned_abs();
-        let better = match best {
+        let size = entry.size();
+        let better = match &best {
             None => true,
             Some(b) => if bland {
                 number < b.variable
             } else {
-                size > b.size
+                size.is_above(b.size)
             },
         };
         if better {
@@ -149,25 +151,24 @@ fn steepest(
 }
 
 /// Whether the range of the column's variable ends before the row blocks it.
-fn ends_first(range: Option<i64>, blocking: Blocking) -> bool {
-    match range {
-        Some(range) => match i128::from(range).checked_mul(blocking.size) {
-            Some(own) => own <= blocking.constant,
-            None => false,
-        },
-        None => false,
-    }
+fn ends_first<N: Number>(range: Option<i64>, blocking: Blocking<N>) -> bool {
+    let Some(range) = range else {
+        return false;
+    };
+    let own = N::of(range).product(blocking.size);
+    let left = N::difference(blocking.constant.product(N::of(1)), own);
+    !N::is_negative_product(left)
 }
 
-impl Simplex {
-    fn leave(&mut self, blocking: Blocking, col: usize) -> Result<bool, AllocError> {
+impl<N: Number> Simplex<N> {
+    fn leave(&mut self, blocking: Blocking<N>, col: usize) -> Result<bool, AllocError> {
         if blocking.reflect && !self.reflect_row(blocking.row) {
             return Ok(false);
         }
         self.pivot(blocking.row, col)
     }
 
-    fn ratio_test(&self, col: usize, rise: bool) -> Option<Blocking> {
+    fn ratio_test(&self, col: usize, rise: bool) -> Option<Blocking<N>> {
         ratio_test(
             self.rows.as_slice(),
             self.variables.as_slice(),
@@ -194,7 +195,7 @@ impl Simplex {
         Ok(Optimum::Reached)
     }
 
-    fn steepest(&self, bland: bool) -> Option<Descent> {
+    fn steepest(&self, bland: bool) -> Option<Descent<N>> {
         let row = self.rows.get(self.cost_row()?)?;
         steepest(
             row.entries.as_slice(),

@@ -1,9 +1,12 @@
 //! Points and directions, as the constants and the columns of the dictionary show them.
 
 use crate::dictionary::Simplex;
+use crate::leaving::against_range;
 use lp_base::product;
-use simplex_rows::{Ratio, Scale, Variable, common_multiple, narrow};
+use simplex_numbers::Number;
+use simplex_rows::{Ratio, Row, Scale, Variable, common_multiple};
 use std::alloc::{AllocError, Global};
+use std::cmp::Ordering;
 
 /// Numbers for the columns of the case over one denominator. Nothing is claimed of them.
 #[derive(Drop)]
@@ -15,29 +18,28 @@ pub struct Coordinates {
 /// A number over a denominator.
 #[derive(Clone, Copy)]
 struct Value {
-    num: i128,
+    num: i64,
     den: i64,
 }
 
-const ZERO: Value = Value { num: 0, den: 1 };
-
-/// The value of a variable counted from its lower bound, by that from the bound that it is counted
-/// from.
-fn from_lower_bound(variable: Variable, num: i64, den: i64) -> Value {
-    let own = i128::from(num);
-    let num = match variable.range {
-        Some(range) if variable.reflected => product(range, den).wrapping_sub(own),
-        _ => own,
-    };
-    Value { num, den }
+/// A number over a denominator in lowest terms. None where these do not fit.
+fn value_of<N: Number>(num: N, den: N) -> Option<Value> {
+    let divisor = num.gcd(den).divisor();
+    Some(Value {
+        num: num.divided(divisor).narrow()?,
+        den: den.divided(divisor).narrow()?,
+    })
 }
 
-fn column_value(scale: Scale, value: Value) -> Option<Ratio> {
+/// The value of a column, by that of its variable, counted from the bound that it is counted from.
+fn column_value(scale: Scale, variable: Variable, value: Value) -> Option<Ratio> {
+    let own = i128::from(value.num);
+    let num = match variable.range {
+        Some(range) if variable.reflected => product(range, value.den).wrapping_sub(own),
+        _ => own,
+    };
     let shift = product(scale.shift, value.den);
-    Ratio::of(
-        value.num.checked_add(shift)?,
-        product(scale.scale, value.den),
-    )
+    Ratio::of(num.checked_add(shift)?, product(scale.scale, value.den))
 }
 
 /// One denominator for all.
@@ -50,7 +52,7 @@ fn common_denominator(ratios: &[Ratio]) -> Option<i64> {
 }
 
 fn over(ratio: Ratio, d: i64) -> Option<i64> {
-    narrow(
+    i64::of_wide(
         ratio
             .num
             .checked_mul(i128::from(d).checked_div(ratio.den)?)?,
@@ -71,24 +73,29 @@ fn coordinates_of(alloc: Global, ratios: &[Ratio]) -> Result<Option<Coordinates>
     Ok(Some(Coordinates { d, x }))
 }
 
-impl Simplex {
-    /// The value of a variable, counted from its lower bound.
-    fn value(&self, number: usize) -> Value {
-        let variable = self.variable(number);
-        if !variable.basic {
-            return from_lower_bound(variable, 0, 1);
+impl<N: Number> Simplex<N> {
+    fn row_at(&self, variable: Variable) -> Option<&Row<N>> {
+        if variable.basic {
+            self.rows.get(variable.place)
+        } else {
+            None
         }
-        match self.rows.get(variable.place) {
-            Some(row) => from_lower_bound(variable, row.constant, row.den),
-            None => ZERO,
-        }
+    }
+
+    fn value_of_column(&self, j: usize, scale: Scale) -> Option<Ratio> {
+        let variable = self.variable(j);
+        let value = match self.row_at(variable) {
+            Some(row) => value_of(row.constant, row.den)?,
+            None => Value { num: 0, den: 1 },
+        };
+        column_value(scale, variable, value)
     }
 
     /// The point at which the dictionary stands. None where it does not fit.
     pub fn point(&self, alloc: Global) -> Result<Option<Coordinates>, AllocError> {
         let mut ratios = Vec::with_capacity(alloc, self.scales.len())?;
         for (j, scale) in self.scales.iter().enumerate() {
-            let Some(ratio) = column_value(*scale, self.value(j)) else {
+            let Some(ratio) = self.value_of_column(j, *scale) else {
                 return Ok(None);
             };
             ratios.push(ratio)?;
@@ -96,29 +103,22 @@ impl Simplex {
         coordinates_of(alloc, ratios.as_slice())
     }
 
-    /// How far a variable goes, counted from its lower bound, where that of the column rises by 1,
-    /// or else falls.
-    fn slope(&self, number: usize, col: usize, rise: bool) -> Value {
-        let variable = self.variable(number);
-        let (num, den) = if !variable.basic {
-            (i64::from(variable.place == col), 1)
-        } else {
-            match self.rows.get(variable.place) {
-                Some(row) => (row.entry(col), row.den),
-                None => (0, 1),
-            }
-        };
-        let keep = rise != variable.reflected;
-        let num = if keep { num } else { num.wrapping_neg() };
-        Value {
-            num: i128::from(num),
-            den,
-        }
-    }
-
+    /// How far a column goes where the variable of another one rises by 1, or else falls.
     fn slope_of_column(&self, j: usize, scale: Scale, col: usize, rise: bool) -> Option<Ratio> {
-        let slope = self.slope(j, col, rise);
-        Ratio::of(slope.num, product(scale.scale, slope.den))
+        let variable = self.variable(j);
+        let value = match self.row_at(variable) {
+            Some(row) => value_of(row.entry(col), row.den)?,
+            None => Value {
+                num: i64::from(!variable.basic && variable.place == col),
+                den: 1,
+            },
+        };
+        let num = if rise == variable.reflected {
+            value.num.wrapping_neg()
+        } else {
+            value.num
+        };
+        Ratio::of(i128::from(num), product(scale.scale, value.den))
     }
 
     /// The direction in which the variable of the column rises, or else falls, as whole numbers
@@ -144,13 +144,12 @@ impl Simplex {
         let Some(bound) = self.bound(constraint) else {
             return false;
         };
-        let value = self.value(bound.variable);
-        if !bound.upper {
-            return value.num == 0;
-        }
-        match self.variable(bound.variable).range {
-            Some(range) => value.num == product(range, value.den),
-            None => false,
+        let variable = self.variable(bound.variable);
+        let here = bound.upper == variable.reflected;
+        match self.row_at(variable) {
+            Some(row) if here => row.constant.is_zero(),
+            Some(row) => against_range(row, variable) == Ordering::Equal,
+            None => here || variable.range == Some(0),
         }
     }
 }

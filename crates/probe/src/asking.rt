@@ -7,19 +7,19 @@ ghost use Rattle.probe.specs.declared.answer.Answer.TheVariants.{Unknown};
 ghost use Rattle.probe.specs.Answers.{IsAnswer};
 
 use crate::Answer;
-use crate::below::{moved_along, tested_point};
+use crate::below::tested_point;
+use crate::finding::{Aim, Finding, Question, find};
 use crate::tested_cuts::{number_of, tested_cut};
-use general_simplex::{Coordinates, Feasibility, Multipliers, Optimum, Simplex};
+use general_simplex::Simplex;
 use lpcc_case::{Case, Point};
 use nogoods::{Choice, NoGood};
 use std::alloc::{AllocError, Global};
 
-/// What the dictionary says, before any test.
+/// A dictionary in numbers of 64 bits, or of 128 bits where those did not do.
 #[derive(Drop)]
-enum Finding {
-    Cut(Multipliers),
-    Point(Coordinates),
-    Nothing,
+enum Dictionary {
+    Narrow(Simplex<i64>),
+    Wide(Simplex<i128>),
 }
 
 /// A standing dictionary that is asked again and again about one case, so that each question goes on
@@ -27,10 +27,35 @@ enum Finding {
 #[derive(Drop)]
 pub struct Probe {
     pub(crate) alloc: Global,
-    pub(crate) simplex: Simplex,
+    dictionary: Dictionary,
     /// Room for the constraints of choices.
-    pub(crate) held: Vec<u32>,
+    held: Vec<u32>,
     pub(crate) dropped: u64,
+}
+
+/// Asks the narrow dictionary. None where a number did not fit it.
+fn find_narrow(
+    dictionary: &mut Dictionary,
+    question: Question<'_>,
+) -> Result<Option<Finding>, AllocError> {
+    let Dictionary::Narrow(simplex) = dictionary else {
+        return Ok(None);
+    };
+    match find(simplex, question)? {
+        Finding::TooWide => Ok(None),
+        found => Ok(Some(found)),
+    }
+}
+
+/// Makes the dictionary a wide one, and asks it.
+fn find_wide(dictionary: &mut Dictionary, question: Question<'_>) -> Result<Finding, AllocError> {
+    if let Dictionary::Narrow(_) = dictionary {
+        *dictionary = Dictionary::Wide(Simplex::of_case(question.alloc, question.case)?);
+    }
+    match dictionary {
+        Dictionary::Narrow(_) => Ok(Finding::Nothing),
+        Dictionary::Wide(simplex) => find(simplex, question),
+    }
 }
 
 impl Probe {
@@ -42,7 +67,7 @@ impl Probe {
     pub fn of_case(alloc: Global, case: &Case) -> Result<Probe, AllocError> {
         Ok(Probe {
             alloc,
-            simplex: Simplex::of_case(alloc, case)?,
+            dictionary: Dictionary::Narrow(Simplex::of_case(alloc, case)?),
             held: Vec::new(alloc),
             dropped: 0,
         })
@@ -53,42 +78,32 @@ impl Probe {
         self.dropped
     }
 
+    /// Whether the dictionary is in numbers of 128 bits, since those of 64 bits did not do.
+    pub fn is_wide(&self) -> bool {
+        match &self.dictionary {
+            Dictionary::Narrow(_) => false,
+            Dictionary::Wide(_) => true,
+        }
+    }
+
     /// How many pivots the dictionary has made since it was last made anew.
     pub fn pivots(&self) -> u64 {
-        self.simplex.pivots()
+        match &self.dictionary {
+            Dictionary::Narrow(simplex) => simplex.pivots(),
+            Dictionary::Wide(simplex) => simplex.pivots(),
+        }
     }
 
     /// Whether the dictionary stands where the constraint of a choice holds with equality. Nothing
     /// is claimed of it.
     pub fn is_tight(&self, case: &Case, choice: Choice) -> bool {
-        match number_of(case, choice) {
-            Some(number) => self.simplex.is_tight(number),
-            None => false,
+        let Some(number) = number_of(case, choice) else {
+            return false;
+        };
+        match &self.dictionary {
+            Dictionary::Narrow(simplex) => simplex.is_tight(number),
+            Dictionary::Wide(simplex) => simplex.is_tight(number),
         }
-    }
-
-    pub(crate) fn renew(&mut self, case: &Case) -> Result<(), AllocError> {
-        self.simplex = Simplex::of_case(self.alloc, case)?;
-        Ok(())
-    }
-
-    fn takes_limit(&mut self, limit: Option<(i128, i64)>) -> bool {
-        if self.simplex.has_limit(limit) {
-            return true;
-        }
-        match limit {
-            None => false,
-            Some((z, d)) => self.simplex.set_limit(z, d),
-        }
-    }
-
-    /// Puts the limit, on a new dictionary where the present one does not take it.
-    fn put_limit(&mut self, case: &Case, limit: Option<(i128, i64)>) -> Result<bool, AllocError> {
-        if !self.simplex.has_overflowed() && self.takes_limit(limit) {
-            return Ok(true);
-        }
-        self.renew(case)?;
-        Ok(self.takes_limit(limit))
     }
 
     fn list_held(&mut self, case: &Case, tight: &NoGood) -> Result<(), AllocError> {
@@ -101,78 +116,26 @@ impl Probe {
         Ok(())
     }
 
-    /// Puts the limit and holds the constraints of the choices. False where the limit does not fit.
-    pub(crate) fn put(
+    /// What the narrow dictionary finds, or the wide one where a number did not fit. It stays wide
+    /// from then on.
+    pub(crate) fn find(
         &mut self,
         case: &Case,
         tight: &NoGood,
         limit: Option<&Point>,
-    ) -> Result<bool, AllocError> {
+        aim: Aim,
+    ) -> Result<Finding, AllocError> {
         self.list_held(case, tight)?;
-        if !self.put_limit(case, limit.map(|point| (point.z, point.d)))? {
-            return Ok(false);
-        }
-        self.simplex.hold(self.held.as_slice())?;
-        Ok(true)
-    }
-
-    fn find_along(&mut self, col: usize, rise: bool) -> Result<Finding, AllocError> {
-        let Some(from) = self.simplex.point(self.alloc)? else {
-            return Ok(Finding::Nothing);
+        let question = Question {
+            alloc: self.alloc,
+            case,
+            held: self.held.as_slice(),
+            limit: limit.map(|point| (point.z, point.d)),
+            aim,
         };
-        let Some(ray) = self.simplex.ray(self.alloc, col, rise)? else {
-            return Ok(Finding::Nothing);
-        };
-        match moved_along(from, &ray)? {
-            Some(further) => Ok(Finding::Point(further)),
-            None => Ok(Finding::Nothing),
-        }
-    }
-
-    fn find_point(&mut self) -> Result<Finding, AllocError> {
-        match self.simplex.enter_cost()? {
-            Optimum::Reached => match self.simplex.point(self.alloc)? {
-                Some(point) => Ok(Finding::Point(point)),
-                None => Ok(Finding::Nothing),
-            },
-            Optimum::Unbounded { col, rise } => self.find_along(col, rise),
-            Optimum::Unknown => Ok(Finding::Nothing),
-        }
-    }
-
-    fn find_once(
-        &mut self,
-        case: &Case,
-        tight: &NoGood,
-        limit: Option<&Point>,
-    ) -> Result<Finding, AllocError> {
-        if !self.put(case, tight, limit)? {
-            return Ok(Finding::Nothing);
-        }
-        let found = self.simplex.check()?;
-        match found {
-            Feasibility::Feasible => self.find_point(),
-            Feasibility::Unknown => Ok(Finding::Nothing),
-            _ => match self.simplex.multipliers(self.alloc, found)? {
-                Some(multipliers) => Ok(Finding::Cut(multipliers)),
-                None => Ok(Finding::Nothing),
-            },
-        }
-    }
-
-    /// The second time on a new dictionary.
-    fn find(
-        &mut self,
-        case: &Case,
-        tight: &NoGood,
-        limit: Option<&Point>,
-    ) -> Result<Finding, AllocError> {
-        match self.find_once(case, tight, limit)? {
-            Finding::Nothing => {
-                self.renew(case)?;
-                self.find_once(case, tight, limit)
-            },
-            found => Ok(found),
+        match find_narrow(&mut self.dictionary, question)? {
+            Some(found) => Ok(found),
+            None => find_wide(&mut self.dictionary, question),
         }
     }
 
@@ -181,6 +144,30 @@ impl Probe {
     {
         self.dropped = self.dropped.saturating_add(1);
         Answer::Unknown
+    }
+
+    fn answer(
+        &mut self,
+        case: &Case,
+        tight: &NoGood,
+        limit: Option<&Point>,
+        found: Finding,
+    ) -> Result<Answer, AllocError>
+        requires named { NamesPairs case.now tight.now }
+        requires limit { IsLimit case.now (option_copied limit) }
+        ensures { IfOk result (IsAnswer case.now (option_copied limit.entry) tight.now) }
+    {
+        match found {
+            Finding::Cut(found) => match tested_cut(self.alloc, case, tight, limit, found)? {
+                Some(cut) => Ok(Answer::Cut(cut)),
+                None => Ok(self.drop_one()),
+            },
+            Finding::Point(found) => match tested_point(case, tight, limit, found) {
+                Some(point) => Ok(Answer::Point(point)),
+                None => Ok(self.drop_one()),
+            },
+            Finding::Least(..) | Finding::TooWide | Finding::Nothing => Ok(Answer::Unknown),
+        }
     }
 
     /// Asks for a point that meets all constraints, is tight at each of the choices and is lower
@@ -200,16 +187,27 @@ impl Probe {
         requires limit { IsLimit case.now (option_copied limit) }
         ensures { IfOk result (IsAnswer case.now (option_copied limit.entry) tight.now) }
     {
-        match self.find(case, tight, limit)? {
-            Finding::Cut(found) => match tested_cut(self.alloc, case, tight, limit, found)? {
-                Some(cut) => Ok(Answer::Cut(cut)),
-                None => Ok(self.drop_one()),
-            },
-            Finding::Point(found) => match tested_point(case, tight, limit, found) {
-                Some(point) => Ok(Answer::Point(point)),
-                None => Ok(self.drop_one()),
-            },
-            Finding::Nothing => Ok(Answer::Unknown),
-        }
+        let found = self.find(case, tight, limit, Aim::Point)?;
+        self.answer(case, tight, limit, found)
+    }
+
+    /// Asks as `ask` does. A point is one of least cost, unless the dictionary could not tell which
+    /// is, or the cost falls without end; nothing is claimed of that.
+    ///
+    /// # Errors
+    ///
+    /// Want of memory alone; the next question is answered as ever.
+    pub fn ask_low(
+        &mut self,
+        case: &Case,
+        tight: &NoGood,
+        limit: Option<&Point>,
+    ) -> Result<Answer, AllocError>
+        requires named { NamesPairs case.now tight.now }
+        requires limit { IsLimit case.now (option_copied limit) }
+        ensures { IfOk result (IsAnswer case.now (option_copied limit.entry) tight.now) }
+    {
+        let found = self.find(case, tight, limit, Aim::LowPoint)?;
+        self.answer(case, tight, limit, found)
     }
 }

@@ -7,20 +7,13 @@ ghost use Rattle.probe.specs.declared.answer.Least.TheVariants.{Unknown};
 ghost use Rattle.probe.specs.Answers.{IsLeast, IsPointBelow};
 
 use crate::below::tested_point;
+use crate::finding::{Aim, Finding};
 use crate::tested_cuts::tested_cut;
 use crate::{Least, Probe};
-use general_simplex::{Coordinates, Feasibility, Multipliers, Optimum};
+use general_simplex::{Coordinates, Multipliers};
 use lpcc_case::{Case, Point};
 use nogoods::NoGood;
 use std::alloc::{AllocError, Global};
-
-/// What the dictionary says, before any test.
-#[derive(Drop)]
-enum Finding {
-    Cut(Multipliers),
-    Best(Coordinates, Multipliers),
-    Nothing,
-}
 
 /// The point with the cut of these multipliers, where it is active against this very point.
 fn tested_best(
@@ -59,39 +52,6 @@ fn tested_least(
 }
 
 impl Probe {
-    fn least_point(&mut self) -> Result<Finding, AllocError> {
-        if self.simplex.optimise()? != Optimum::Reached {
-            return Ok(Finding::Nothing);
-        }
-        let Some(point) = self.simplex.point(self.alloc)? else {
-            return Ok(Finding::Nothing);
-        };
-        match self.simplex.multipliers_of_cost(self.alloc)? {
-            Some(multipliers) => Ok(Finding::Best(point, multipliers)),
-            None => Ok(Finding::Nothing),
-        }
-    }
-
-    fn find_least(
-        &mut self,
-        case: &Case,
-        tight: &NoGood,
-        limit: Option<&Point>,
-    ) -> Result<Finding, AllocError> {
-        if !self.put(case, tight, limit)? {
-            return Ok(Finding::Nothing);
-        }
-        let found = self.simplex.check()?;
-        match found {
-            Feasibility::Feasible => self.least_point(),
-            Feasibility::Unknown => Ok(Finding::Nothing),
-            _ => match self.simplex.multipliers(self.alloc, found)? {
-                Some(multipliers) => Ok(Finding::Cut(multipliers)),
-                None => Ok(Finding::Nothing),
-            },
-        }
-    }
-
     fn drop_least(&mut self) -> Least
         ensures { result ≡ Unknown }
     {
@@ -116,18 +76,18 @@ impl Probe {
         requires limit { IsLimit case.now (option_copied limit) }
         ensures { IfOk result (IsLeast case.now (option_copied limit.entry) tight.now) }
     {
-        match self.find_least(case, tight, limit)? {
+        match self.find(case, tight, limit, Aim::Least)? {
             Finding::Cut(found) => match tested_cut(self.alloc, case, tight, limit, found)? {
                 Some(cut) => Ok(Least::Nothing(cut)),
                 None => Ok(self.drop_least()),
             },
-            Finding::Best(point, found) => {
+            Finding::Least(point, found) => {
                 match tested_least(self.alloc, case, tight, limit, point, found)? {
                     Some(least) => Ok(least),
                     None => Ok(self.drop_least()),
                 }
             },
-            Finding::Nothing => Ok(Least::Unknown),
+            Finding::Point(_) | Finding::TooWide | Finding::Nothing => Ok(Least::Unknown),
         }
     }
 }

@@ -6,6 +6,7 @@
 mod answer;
 mod asking;
 mod below;
+mod finding;
 mod least;
 mod tested_cuts;
 mod within;

@@ -1,10 +1,9 @@
 //! Rows of the dictionary, and the operations on them that take the time.
 
-use crate::arithmetic::{Divisor, gcd, narrow, quotient, wide_gcd, wide_quotient};
-use lp_base::{LARGEST_NARROW, product};
+use simplex_numbers::Number;
 
 /// A row below this magnitude keeps its common divisor.
-const WORTH_REDUCING: u64 = 1 << 24;
+const WORTH_REDUCING: i64 = 1 << 24;
 
 /// By how many bits the magnitude of a row grows before its common divisor is taken out.
 const GROWTH: u32 = 6;
@@ -12,253 +11,273 @@ const GROWTH: u32 = 6;
 /// `den` times the row's variable is the constant and the sum of the entries, each times the
 /// variable of its column.
 #[derive(Drop)]
-pub struct Row {
-    pub entries: Vec<i64>,
-    pub constant: i64,
-    pub den: i64,
-    /// At least the size of each number: the sizes or-ed, or more.
-    pub magnitude: u64,
+pub struct Row<N> {
+    pub entries: Vec<N>,
+    pub constant: N,
+    pub den: N,
+    /// At least the size of each number: the sizes joined, or more.
+    pub magnitude: N,
     /// The magnitude when the common divisor was last taken out.
-    pub reduced_magnitude: u64,
+    pub reduced_magnitude: N,
     /// The variable that is basic here.
     pub variable: usize,
 }
 
 /// The row of the variable that leaves, as the other rows need it. Its terms stand beside it.
 #[derive(Clone, Copy)]
-pub struct PivotRow {
+pub struct PivotRow<N> {
     /// The column of the variable that enters.
     pub col: usize,
     /// The row's entry there.
-    pub entry: i64,
-    pub constant: i64,
-    pub den: i64,
-    pub magnitude: u64,
+    pub entry: N,
+    pub constant: N,
+    pub den: N,
+    pub magnitude: N,
 }
 
 /// A row becomes `own` times itself less `other` times the pivot's row.
 #[derive(Clone, Copy)]
-struct Factors {
-    own: i64,
-    other: i64,
+struct Factors<N> {
+    own: N,
+    other: N,
 }
 
-impl Factors {
+impl<N: Number> Factors<N> {
     #[inline(always)]
-    fn of(entry: i64, pivot: i64) -> Factors {
-        let divisor = gcd(entry.unsigned_abs(), pivot.unsigned_abs()).cast_signed();
-        let own = quotient(pivot, divisor);
-        let other = quotient(entry, divisor);
-        if own < 0 {
+    fn of(entry: N, pivot: N) -> Factors<N> {
+        let divisor = entry.gcd(pivot);
+        let own = pivot.quotient(divisor);
+        let other = entry.quotient(divisor);
+        if own.is_negative() {
             Factors {
-                own: own.wrapping_neg(),
-                other: other.wrapping_neg(),
+                own: own.negated(),
+                other: other.negated(),
             }
         } else {
             Factors { own, other }
         }
     }
 
-    /// Whether the row that they make of rows of these magnitudes is narrow.
+    /// Whether the row that they make of rows of these magnitudes fits.
     #[inline(always)]
-    fn fit(self, row: u64, pivot: u64) -> bool {
-        let own = u128::from(row).wrapping_mul(u128::from(self.own.unsigned_abs()));
-        let other = u128::from(pivot).wrapping_mul(u128::from(self.other.unsigned_abs()));
-        own.saturating_add(other) <= LARGEST_NARROW
+    fn fit(self, row: N, pivot: N) -> bool {
+        N::combination_fits(row, self.own, pivot, self.other.size())
     }
 }
 
-/// Takes `factor` times the terms from the numbers, and gives the sizes of the new ones, or-ed.
+/// In how many more rows a column is not zero where one entry changes.
+#[inline(always)]
+fn change<N: Number>(old: N, new: N) -> i64 {
+    i64::from(old.is_zero()).wrapping_sub(i64::from(new.is_zero()))
+}
+
+/// Takes `factor` times the terms from the numbers, and gives the sizes of the new ones, joined.
 /// `counts` keeps in how many rows each column is not zero.
 #[inline(always)]
-fn subtract(numbers: &mut [i64], terms: &[(usize, i64)], factor: i64, counts: &mut [i64]) -> u64 {
-    let mut magnitude = 0;
-    for term in terms {
-        let (k, v) = *term;
-        if k < numbers.len() && k < counts.len() {
-            let old = numbers[k];
-            let new = old.wrapping_sub(factor.wrapping_mul(v));
-            numbers[k] = new;
-            magnitude |= new.unsigned_abs();
-            counts[k] = counts[k]
-                .wrapping_add(i64::from(new != 0))
-                .wrapping_sub(i64::from(old != 0));
-        }
-    }
-    magnitude
-}
-
-#[inline(always)]
-fn multiply(numbers: &mut [i64], factor: i64) {
-    for x in numbers.iter_mut() {
-        *x = x.wrapping_mul(factor);
-    }
-}
-
-#[inline(always)]
-fn put(numbers: &mut [i64], k: usize, value: i64) {
-    if k < numbers.len() {
-        numbers[k] = value;
-    }
-}
-
-fn magnitude_of(numbers: &[i64]) -> u64 {
-    let mut magnitude = 0;
-    for x in numbers {
-        magnitude |= x.unsigned_abs();
-    }
-    magnitude
-}
-
-/// The greatest common divisor of a number above 0 and the numbers.
-fn common_divisor(start: u64, numbers: &[i64]) -> u64 {
-    let mut common = Divisor::of(start);
-    for x in numbers {
-        let size = x.unsigned_abs();
-        if size != 0 && !common.divides(size) {
-            let divisor = gcd(common.size, size);
-            if divisor == 1 {
-                return 1;
-            }
-            common = Divisor::of(divisor);
-        }
-    }
-    common.size
-}
-
-/// Divides the numbers, and gives the sizes of the quotients, or-ed.
-fn divide(numbers: &mut [i64], divisor: Divisor) -> u64 {
-    let mut magnitude = 0;
-    for x in numbers.iter_mut() {
-        let new = divisor.quotient(*x);
-        *x = new;
-        magnitude |= new.unsigned_abs();
-    }
-    magnitude
-}
-
-fn widen(wide: &mut [i128], numbers: &[i64], factor: i64) {
-    for (k, x) in numbers.iter().enumerate() {
-        if k < wide.len() {
-            wide[k] = product(*x, factor);
-        }
-    }
-}
-
-fn subtract_wide(wide: &mut [i128], terms: &[(usize, i64)], factor: i64) {
-    for term in terms {
-        let (k, v) = *term;
-        if k < wide.len() {
-            wide[k] = wide[k].wrapping_sub(product(factor, v));
-        }
-    }
-}
-
-fn put_wide(wide: &mut [i128], k: usize, value: i128) {
-    if k < wide.len() {
-        wide[k] = value;
-    }
-}
-
-fn wide_common_divisor(start: u128, numbers: &[i128]) -> u128 {
-    let mut divisor = start;
-    for x in numbers {
-        if divisor == 1 {
-            break;
-        }
-        if *x != 0 {
-            divisor = wide_gcd(divisor, x.unsigned_abs());
-        }
-    }
-    divisor
-}
-
-#[inline(always)]
-fn divided(z: i128, divisor: i128) -> Option<i64> {
-    if divisor == 1 {
-        narrow(z)
-    } else {
-        narrow(wide_quotient(z, divisor))
-    }
-}
-
-/// Writes the quotients, and gives their sizes, or-ed. None where one does not fit.
-fn narrow_all(
-    numbers: &mut [i64],
-    wide: &[i128],
-    divisor: i128,
+fn subtract<N: Number>(
+    numbers: &mut [N],
+    terms: &[(usize, N)],
+    factor: N,
     counts: &mut [i64],
-) -> Option<u64> {
-    let mut magnitude = 0;
-    for (k, z) in wide.iter().enumerate() {
+) -> N {
+    let mut magnitude = N::of(0);
+    for term in terms {
+        let (k, v) = *term;
         if k < numbers.len() && k < counts.len() {
-            let new = divided(*z, divisor)?;
+            let old = numbers[k];
+            let new = old.minus(factor.times(v));
+            numbers[k] = new;
+            magnitude = magnitude.join(new.size());
+            counts[k] = counts[k].wrapping_add(change(old, new));
+        }
+    }
+    magnitude
+}
+
+#[inline(always)]
+fn multiply<N: Number>(numbers: &mut [N], factor: N) {
+    for x in numbers.iter_mut() {
+        *x = x.times(factor);
+    }
+}
+
+#[inline(always)]
+fn negate<N: Number>(numbers: &mut [N]) {
+    for x in numbers.iter_mut() {
+        *x = x.negated();
+    }
+}
+
+#[inline(always)]
+fn put<T: Copy>(list: &mut [T], k: usize, value: T) {
+    if k < list.len() {
+        list[k] = value;
+    }
+}
+
+fn magnitude_of<N: Number>(numbers: &[N]) -> N {
+    let mut magnitude = N::of(0);
+    for x in numbers {
+        magnitude = magnitude.join(x.size());
+    }
+    magnitude
+}
+
+/// The greatest common divisor of a size above 0 and the numbers.
+fn common_divisor<N: Number>(start: N, numbers: &[N]) -> N {
+    let mut common = start;
+    let mut divisor = start.divisor();
+    for x in numbers {
+        if !x.is_divided(divisor) {
+            common = common.gcd(*x);
+            if common.is_one() {
+                break;
+            }
+            divisor = common.divisor();
+        }
+    }
+    common
+}
+
+/// Divides the numbers, and gives the sizes of the quotients, joined.
+fn divide<N: Number>(numbers: &mut [N], divisor: N::Divisor) -> N {
+    let mut magnitude = N::of(0);
+    for x in numbers.iter_mut() {
+        let new = x.divided(divisor);
+        *x = new;
+        magnitude = magnitude.join(new.size());
+    }
+    magnitude
+}
+
+fn fill_products<N: Number>(products: &mut [N::Product], numbers: &[N], factor: N) {
+    for (k, x) in numbers.iter().enumerate() {
+        put(products, k, x.product(factor));
+    }
+}
+
+fn subtract_products<N: Number>(products: &mut [N::Product], terms: &[(usize, N)], factor: N) {
+    for term in terms {
+        let (k, v) = *term;
+        if k < products.len() {
+            products[k] = N::difference(products[k], factor.product(v));
+        }
+    }
+}
+
+/// The greatest common divisor of a size above 0 and the products. None where a quotient by it does
+/// not fit.
+fn common_product_divisor<N: Number>(
+    start: N::Product,
+    products: &[N::Product],
+) -> Option<N::ProductDivisor> {
+    let mut common = start;
+    let mut divisor = N::product_divisor(start);
+    for x in products {
+        if N::product_divided(*x, divisor).is_none() {
+            common = N::common_divisor(common, *x);
+            divisor = N::product_divisor(common);
+            N::product_divided(*x, divisor)?;
+        }
+    }
+    Some(divisor)
+}
+
+/// Writes the quotients, and gives their sizes, joined. None where one does not fit.
+fn divide_products<N: Number>(
+    numbers: &mut [N],
+    products: &[N::Product],
+    divisor: N::ProductDivisor,
+    counts: &mut [i64],
+) -> Option<N> {
+    let mut magnitude = N::of(0);
+    for (k, product) in products.iter().enumerate() {
+        if k < numbers.len() && k < counts.len() {
+            let new = N::product_divided(*product, divisor)?;
             let old = numbers[k];
             numbers[k] = new;
-            magnitude |= new.unsigned_abs();
-            counts[k] = counts[k]
-                .wrapping_add(i64::from(new != 0))
-                .wrapping_sub(i64::from(old != 0));
+            magnitude = magnitude.join(new.size());
+            counts[k] = counts[k].wrapping_add(change(old, new));
         }
     }
     Some(magnitude)
 }
 
-impl Row {
+impl<N: Number> Row<N> {
     /// The entry at a column, and 0 past the last one.
     #[inline(always)]
-    pub fn entry(&self, col: usize) -> i64 {
+    pub fn entry(&self, col: usize) -> N {
         if col < self.entries.len() {
             self.entries[col]
         } else {
-            0
+            N::of(0)
         }
+    }
+
+    /// The greatest common divisor of the denominator and the entries.
+    pub fn divisor_of_multipliers(&self) -> N {
+        common_divisor(self.den.size(), self.entries.as_slice())
     }
 
     /// Takes out the common divisor.
     pub fn reduce(&mut self) {
-        let start = gcd(self.den.unsigned_abs(), self.constant.unsigned_abs());
-        let common = if start == 1 {
-            1
+        let start = self.den.gcd(self.constant);
+        let common = if start.is_one() {
+            start
         } else {
             common_divisor(start, self.entries.as_slice())
         };
-        let magnitude = if common > 1 {
-            let divisor = Divisor::of(common);
-            self.den = divisor.quotient(self.den);
-            self.constant = divisor.quotient(self.constant);
-            divide(self.entries.as_mut_slice(), divisor)
-        } else {
+        let magnitude = if common.is_one() {
             magnitude_of(self.entries.as_slice())
+        } else {
+            let divisor = common.divisor();
+            self.den = self.den.divided(divisor);
+            self.constant = self.constant.divided(divisor);
+            divide(self.entries.as_mut_slice(), divisor)
         };
-        self.magnitude = magnitude | self.den.unsigned_abs() | self.constant.unsigned_abs();
+        self.magnitude = magnitude.join(self.den.size()).join(self.constant.size());
+    }
+
+    /// Multiplies the entries. None where one may not fit: then nothing has changed.
+    pub fn multiply(&mut self, factor: N) -> Option<()> {
+        let zero = N::of(0);
+        if !N::combination_fits(self.magnitude, factor.size(), zero, zero) {
+            return None;
+        }
+        multiply(self.entries.as_mut_slice(), factor);
+        Some(())
     }
 
     #[inline(always)]
     fn eliminate_narrow(
         &mut self,
-        pivot: PivotRow,
-        factors: Factors,
-        terms: &[(usize, i64)],
+        pivot: PivotRow<N>,
+        factors: Factors<N>,
+        terms: &[(usize, N)],
         counts: &mut [i64],
     ) {
         let Factors { own, other } = factors;
         let mut magnitude = self.magnitude;
-        if own != 1 {
+        if !own.is_one() {
             multiply(self.entries.as_mut_slice(), own);
-            self.den = self.den.wrapping_mul(own);
-            self.constant = self.constant.wrapping_mul(own);
-            magnitude |= magnitude.saturating_mul(own.unsigned_abs());
+            self.den = self.den.times(own);
+            self.constant = self.constant.times(own);
+            magnitude = magnitude.join(magnitude.saturating_times(own));
         }
-        magnitude |= subtract(self.entries.as_mut_slice(), terms, other, counts);
-        self.constant = self
-            .constant
-            .wrapping_sub(other.wrapping_mul(pivot.constant));
-        let left = other.wrapping_mul(pivot.den);
+        let changed = subtract(self.entries.as_mut_slice(), terms, other, counts);
+        self.constant = self.constant.minus(other.times(pivot.constant));
+        let left = other.times(pivot.den);
         put(self.entries.as_mut_slice(), pivot.col, left);
-        magnitude |= self.constant.unsigned_abs() | left.unsigned_abs();
+        magnitude = magnitude
+            .join(changed)
+            .join(self.constant.size())
+            .join(left.size());
         self.magnitude = magnitude;
-        if magnitude > WORTH_REDUCING && magnitude.wrapping_shr(GROWTH) > self.reduced_magnitude {
+        if magnitude.is_above(N::of(WORTH_REDUCING))
+            && magnitude
+                .without_bits(GROWTH)
+                .is_above(self.reduced_magnitude)
+        {
             self.reduce();
             self.reduced_magnitude = self.magnitude;
         }
@@ -266,40 +285,41 @@ impl Row {
 
     fn eliminate_wide(
         &mut self,
-        pivot: PivotRow,
-        factors: Factors,
-        terms: &[(usize, i64)],
+        pivot: PivotRow<N>,
+        factors: Factors<N>,
+        terms: &[(usize, N)],
         counts: &mut [i64],
-        wide: &mut [i128],
+        products: &mut [N::Product],
     ) -> Option<()> {
         let Factors { own, other } = factors;
-        widen(wide, self.entries.as_slice(), own);
-        subtract_wide(wide, terms, other);
-        put_wide(wide, pivot.col, product(other, pivot.den));
-        let den = product(self.den, own);
-        let constant = product(self.constant, own).wrapping_sub(product(other, pivot.constant));
-        let start = wide_gcd(den.unsigned_abs(), constant.unsigned_abs());
-        let divisor = i128::try_from(wide_common_divisor(start, wide)).ok()?;
-        self.den = divided(den, divisor)?;
-        self.constant = divided(constant, divisor)?;
-        let magnitude = narrow_all(self.entries.as_mut_slice(), wide, divisor, counts)?;
-        self.magnitude = magnitude | self.den.unsigned_abs() | self.constant.unsigned_abs();
+        fill_products(products, self.entries.as_slice(), own);
+        subtract_products(products, terms, other);
+        put(products, pivot.col, other.product(pivot.den));
+        let den = self.den.product(own);
+        let constant = N::difference(self.constant.product(own), other.product(pivot.constant));
+        let start = N::common_divisor(den, constant);
+        let divisor = common_product_divisor::<N>(start, products)?;
+        self.den = N::product_divided(den, divisor)?;
+        self.constant = N::product_divided(constant, divisor)?;
+        let magnitude = divide_products(self.entries.as_mut_slice(), products, divisor, counts)?;
+        self.magnitude = magnitude.join(self.den.size()).join(self.constant.size());
+        self.reduced_magnitude = self.magnitude;
         Some(())
     }
 
     /// Puts for the variable that enters what the pivot's row says of it. `terms` are the terms of
-    /// that row but for its entry there, and `wide` is room for one row. False where a number does
-    /// not fit: the dictionary is then of no use.
+    /// that row but for its entry there, and `products` is room for one row. False where a number
+    /// does not fit: the dictionary is then of no use.
     #[inline(always)]
     pub fn eliminate(
         &mut self,
-        pivot: PivotRow,
-        terms: &[(usize, i64)],
+        pivot: PivotRow<N>,
+        terms: &[(usize, N)],
         counts: &mut [i64],
-        wide: &mut [i128],
+        products: &mut [N::Product],
     ) -> bool {
         let entry = self.entry(pivot.col);
-        if entry == 0 {
+        if entry.is_zero() {
             return true;
         }
         let mut factors = Factors::of(entry, pivot.entry);
@@ -308,7 +328,7 @@ impl Row {
             factors = Factors::of(self.entry(pivot.col), pivot.entry);
             if !factors.fit(self.magnitude, pivot.magnitude) {
                 return self
-                    .eliminate_wide(pivot, factors, terms, counts, wide)
+                    .eliminate_wide(pivot, factors, terms, counts, products)
                     .is_some();
             }
         }
@@ -317,26 +337,30 @@ impl Row {
     }
 
     /// Makes the row that of the variable that enters.
-    pub fn enter(&mut self, pivot: PivotRow, variable: usize) {
-        let sign = if pivot.entry > 0 { -1 } else { 1 };
-        multiply(self.entries.as_mut_slice(), sign);
-        put(
-            self.entries.as_mut_slice(),
-            pivot.col,
-            pivot.den.wrapping_mul(sign).wrapping_neg(),
-        );
-        self.constant = self.constant.wrapping_mul(sign);
-        self.den = pivot.entry.wrapping_mul(sign).wrapping_neg();
+    pub fn enter(&mut self, pivot: PivotRow<N>, variable: usize) {
+        let falls = pivot.entry.is_negative();
+        if !falls {
+            negate(self.entries.as_mut_slice());
+            self.constant = self.constant.negated();
+        }
+        let left = if falls {
+            pivot.den.negated()
+        } else {
+            pivot.den
+        };
+        put(self.entries.as_mut_slice(), pivot.col, left);
+        self.den = pivot.entry.size();
         self.variable = variable;
     }
 
     /// Counts the row's variable from its other bound, which lies `range` away. None where a number
     /// does not fit.
     pub fn reflect(&mut self, range: i64) -> Option<()> {
-        let constant = narrow(product(range, self.den).wrapping_sub(i128::from(self.constant)))?;
-        multiply(self.entries.as_mut_slice(), -1);
+        let top = N::of(range).product(self.den);
+        let constant = N::of_product(N::difference(top, self.constant.product(N::of(1))))?;
+        negate(self.entries.as_mut_slice());
         self.constant = constant;
-        self.magnitude |= constant.unsigned_abs();
+        self.magnitude = self.magnitude.join(constant.size());
         Some(())
     }
 
@@ -344,11 +368,12 @@ impl Row {
     #[inline(always)]
     pub fn reflect_column(&mut self, col: usize, range: i64) -> Option<()> {
         let entry = self.entry(col);
-        if entry != 0 {
-            let constant = narrow(product(entry, range).wrapping_add(i128::from(self.constant)))?;
+        if !entry.is_zero() {
+            let moved = entry.negated().product(N::of(range));
+            let constant = N::of_product(N::difference(self.constant.product(N::of(1)), moved))?;
             self.constant = constant;
-            self.magnitude |= constant.unsigned_abs();
-            put(self.entries.as_mut_slice(), col, entry.wrapping_neg());
+            self.magnitude = self.magnitude.join(constant.size());
+            put(self.entries.as_mut_slice(), col, entry.negated());
         }
         Some(())
     }
