@@ -15,7 +15,7 @@ fn run(alloc: Global, case: &Case, options: &Options) -> Result<Ending, AllocErr
     ensures { IfOk result (IsEnded case.now options.now) }
 {
     let mut desk = RecordedPart::create(alloc, case, options)?;
-    let mut known = Knowledge::new(alloc);
+    let mut known = Knowledge::new(alloc, 0);
     'turns: loop {
         if !turn(alloc, case, options, &mut desk, &mut known)? {
             return desk.close(alloc);

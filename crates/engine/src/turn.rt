@@ -1,6 +1,6 @@
 //! One turn of a worker: a draw, and where it gives a piece, what settles it.
 ghost use Rattle.std.specs.Prelude.{◌≡◌, ◌<◌, IfOk, OnOk};
-ghost use Rattle.play.specs.Points.{IsBest};
+ghost use Rattle.settling.specs.Known.{IsTrueKnowledge};
 ghost use Rattle.engine.specs.Turns.{Holds, IsTurn, IsWaiting};
 
 use desk_part::{Draw, RecordedPart};
@@ -20,8 +20,8 @@ fn settle_piece(
 ) -> Result<(), AllocError>
     requires one { options.now.workers ≡ 1 }
     requires holds { Holds case.now options.now ticket desk.old }
-    requires best { IsBest case.now known.old.incumbent }
-    ensures best { IsBest case.now known.new.incumbent }
+    requires known { IsTrueKnowledge case.now known.old }
+    ensures known { IsTrueKnowledge case.now known.new }
     ensures waits { OnOk result (IsWaiting case.now options.now desk.new) }
     ensures drawn { OnOk result (desk.new.part.drawn ≡ desk.old.part.drawn) }
 {
@@ -42,8 +42,8 @@ pub fn turn(
 ) -> Result<bool, AllocError>
     requires one { options.now.workers ≡ 1 }
     requires waits { IsWaiting case.now options.now desk.old }
-    requires best { IsBest case.now known.old.incumbent }
-    ensures best { IsBest case.now known.new.incumbent }
+    requires known { IsTrueKnowledge case.now known.old }
+    ensures known { IsTrueKnowledge case.now known.new }
     ensures turn { IfOk result (IsTurn case.now options.now desk.old desk.new) }
 {
     match desk.draw(alloc, 0)? {

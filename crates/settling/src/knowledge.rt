@@ -4,8 +4,9 @@ ghost use Rattle.std.specs.Option.{option_copied};
 ghost use Rattle.cuts.specs.Cuts.{Passes};
 ghost use Rattle.reasons.specs.Reasons.{IsActiveAgainst};
 ghost use Rattle.shrink.specs.Shrinking.{IsShrunk};
-ghost use Rattle.play.specs.Points.{IsBest, IsCandidate, lowered};
-ghost use Rattle.settling.specs.Known.{known_of};
+ghost use Rattle.play.specs.Points.{IsCandidate, lowered};
+ghost use Rattle.lpcc_case.specs.Instance.{Instance};
+ghost use Rattle.settling.specs.Known.{IsTrueKnowledge, nothing_known};
 
 use cuts::Cut;
 use lpcc_case::{Case, Point, lower};
@@ -19,14 +20,16 @@ use std::marker::Model;
 pub struct Knowledge {
     incumbent: Option<Point>,
     points: KnownPoints,
+    /// The search of another worker has another seed.
+    seed: u64,
 }
 
 impl Model for Knowledge {
-    ghost use Rattle.settling.specs.Known.{Known, known_of};
+    ghost use Rattle.settling.specs.Known.{Known};
 
     ghost Value = { Known };
 
-    ghost view = { λ k. known_of k.incumbent };
+    ghost view = { λ k. record { incumbent = k.incumbent } };
 }
 
 fn copy_best(alloc: Global, best: Option<&Point>) -> Result<Option<Point>, AllocError>
@@ -55,13 +58,16 @@ fn improved(incumbent: Option<Point>, found: Point) -> Option<Point>
 }
 
 impl Knowledge {
-    /// Nothing is known. It takes no memory.
-    pub fn new(alloc: Global) -> Knowledge
-        ensures { result ≡ known_of None }
+    /// Nothing is known, of whatever case. It takes no memory. Workers with other seeds search in
+    /// other orders.
+    pub fn new(alloc: Global, seed: u64) -> Knowledge
+        ensures value { result ≡ nothing_known }
+        ensures known { (a : Instance) → IsTrueKnowledge a result }
     {
         Knowledge {
             incumbent: None,
             points: KnownPoints::new(alloc),
+            seed,
         }
     }
 
@@ -81,10 +87,10 @@ impl Knowledge {
 
     /// Takes a feasible point as the incumbent, where it is lower than the one so far.
     pub fn improve(&mut self, case: &Case, point: Point)
-        requires best { IsBest case.now self.old.incumbent }
+        requires known { IsTrueKnowledge case.now self.old }
         requires point { IsCandidate case.now point }
         ensures lowered { self.new.incumbent ≡ lowered self.old.incumbent (Some point) }
-        ensures best { IsBest case.now self.new.incumbent }
+        ensures known { IsTrueKnowledge case.now self.new }
     {
         self.incumbent = improved(self.incumbent.take(), point);
     }
@@ -97,7 +103,7 @@ impl Knowledge {
         cut: Cut,
         pivots: u64,
     ) -> Result<Shrunk, AllocError>
-        requires best { IsBest case.now self.old.incumbent }
+        requires known { IsTrueKnowledge case.now self.old }
         requires passes { Passes case.now cut }
         requires active { IsActiveAgainst cut self.old.incumbent }
         ensures same { self.new ≡ self.old }

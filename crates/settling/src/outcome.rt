@@ -6,8 +6,9 @@ ghost use Rattle.cuts.specs.Cuts.{Passes, no_good_of};
 ghost use Rattle.reasons.specs.Reasons.{IsActiveAgainst};
 ghost use Rattle.walks.specs.Ends.{IsPointAt};
 ghost use Rattle.lex_simplex.specs.Answers.{IsAnswer, IsPointCutOf};
-ghost use Rattle.play.specs.Points.{IsBest, choices_of};
+ghost use Rattle.play.specs.Points.{choices_of};
 ghost use Rattle.play.specs.declared.event.ShrinkMode.TheVariants.{Full, Off};
+ghost use Rattle.settling.specs.Known.{IsTrueKnowledge};
 ghost use Rattle.settling.specs.Outcomes.{IsOutcomeOf};
 
 use crate::Knowledge;
@@ -32,7 +33,7 @@ fn by_plain_cut(
     requires passes { Passes case.now cut }
     requires bars { Bars (no_good_of cut) piece.now }
     requires active { IsActiveAgainst cut known.now.incumbent }
-    requires best { IsBest case.now known.now.incumbent }
+    requires known { IsTrueKnowledge case.now known.now }
     ensures { IfOk result (IsOutcomeOf case.now options.now piece.now) }
 {
     Ok(Outcome::Cut {
@@ -55,7 +56,7 @@ fn by_shrunk_cut(
     requires passes { Passes case.now cut }
     requires bars { Bars (no_good_of cut) piece.now }
     requires active { IsActiveAgainst cut known.old.incumbent }
-    requires best { IsBest case.now known.old.incumbent }
+    requires known { IsTrueKnowledge case.now known.old }
     ensures same { known.new ≡ known.old }
     ensures outcome { IfOk result (IsOutcomeOf case.now options.now piece.now) }
 {
@@ -80,7 +81,7 @@ fn by_cut(
     requires passes { Passes case.now cut }
     requires bars { Bars (no_good_of cut) piece.now }
     requires active { IsActiveAgainst cut known.old.incumbent }
-    requires best { IsBest case.now known.old.incumbent }
+    requires known { IsTrueKnowledge case.now known.old }
     ensures same { known.new ≡ known.old }
     ensures outcome { IfOk result (IsOutcomeOf case.now options.now piece.now) }
 {
@@ -116,10 +117,10 @@ fn by_optimum(
     cut: Cut,
 ) -> Result<Outcome, AllocError>
     requires piece { IsPiece case.now piece.now }
-    requires best { IsBest case.now known.old.incumbent }
+    requires known { IsTrueKnowledge case.now known.old }
     requires point { IsPointAt case.now (choices_of piece.now) point }
     requires cut { IsPointCutOf case.now (choices_of piece.now) point cut }
-    ensures best { IsBest case.now known.new.incumbent }
+    ensures known { IsTrueKnowledge case.now known.new }
     ensures outcome { IfOk result (IsOutcomeOf case.now options.now piece.now) }
 {
     known.improve(case, point);
@@ -141,8 +142,8 @@ pub fn outcome_of(
     piece: &Piece,
 ) -> Result<Outcome, AllocError>
     requires piece { IsPiece case.now piece.now }
-    requires best { IsBest case.now known.old.incumbent }
-    ensures best { IsBest case.now known.new.incumbent }
+    requires known { IsTrueKnowledge case.now known.old }
+    ensures known { IsTrueKnowledge case.now known.new }
     ensures outcome { IfOk result (IsOutcomeOf case.now options.now piece.now) }
 {
     match solve_piece(alloc, case, options, piece)? {

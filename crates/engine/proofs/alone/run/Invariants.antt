@@ -1,5 +1,5 @@
 use Rattle.std.proofs.Common.{◌-◌}
-use Rattle.play.specs.Points.{IsBest}
+use Rattle.settling.specs.Known.{IsTrueKnowledge}
 use Rattle.engine.specs.Turns.{IsWaiting}
 use Rattle.engine.proofs.alone.run.Given as goal
 
@@ -9,5 +9,5 @@ decreases-turns l = l.options.pieces - l.desk.part.drawn
 abbrev pub invariant-turns : goal.invariant-turns
 invariant-turns l = record {
   waits : IsWaiting l.case l.options l.desk;
-  best : IsBest l.case l.known.incumbent;
+  known : IsTrueKnowledge l.case l.known;
 }

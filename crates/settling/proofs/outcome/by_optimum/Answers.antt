@@ -9,4 +9,4 @@ by_cut-requires-clause-bars c = point_cut_bars c.args.case.now c.args.piece.now 
 
 pub by_cut-requires-clause-active : goal.by_cut-requires-clause-active
 by_cut-requires-clause-active c =
-    improved_active c.args.case.now c.args.piece.now c.args.point c.args.cut c.args.known.now.incumbent c.improve.new.self.incumbent c.requires.piece c.requires.point c.requires.cut c.requires.best c.improve.ensures.lowered
+    improved_active c.args.case.now c.args.piece.now c.args.point c.args.cut c.args.known.now.incumbent c.improve.new.self.incumbent c.requires.piece c.requires.point c.requires.cut c.requires.known.best c.improve.ensures.lowered
