@@ -87,6 +87,6 @@ impl RecordedPart {
     pub fn may_draw(&self, worker: u32) -> bool
         ensures { result ≡ true → (worker < self.now.options.workers) × IsFree worker self.now.part.flight }
     {
-        worker < self.options.workers && self.part.is_free(worker)
+        worker < self.options.workers.number() && self.part.is_free(worker)
     }
 }

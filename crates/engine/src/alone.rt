@@ -5,7 +5,7 @@ ghost use Rattle.engine.specs.Solved.{IsEnded, IsSolved, PiecesLast, PivotsLast,
 use crate::turn::turn;
 use desk_part::RecordedPart;
 use lpcc_case::Case;
-use play::{Ending, Options};
+use play::{Ending, Options, Workers};
 use settling::Knowledge;
 use std::alloc::{AllocError, Global};
 
@@ -35,7 +35,7 @@ pub fn solve_alone(alloc: Global, case: &Case, options: &Options) -> Ending
 {
     let _pairs = case.pairs();
     let options = Options {
-        workers: 1,
+        workers: Workers::one(),
         ..*options
     };
     match run(alloc, case, &options) {

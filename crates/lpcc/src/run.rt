@@ -11,7 +11,7 @@ use command::{Status, give};
 use deck_gen::in_range;
 use generating::{generate, generate_and_solve};
 use lp_io::{Sink, Source};
-use play::{Options, ShrinkMode};
+use play::{Options, ShrinkMode, Workers};
 use relaxing::relax;
 use solving::run_solve;
 use std::alloc::Global;
@@ -51,7 +51,7 @@ fn options_of(settings: Settings) -> Options
     ensures { result ≡ options_of settings }
 {
     Options {
-        workers: 1,
+        workers: Workers::one(),
         pieces: settings.pieces,
         pivots: settings.pivots,
         shrink: if settings.full {
@@ -66,7 +66,7 @@ fn usual() -> Options
     ensures { result ≡ usual }
 {
     Options {
-        workers: 1,
+        workers: Workers::one(),
         pieces: USUAL_PIECES,
         pivots: USUAL_PIVOTS,
         shrink: ShrinkMode::Full,

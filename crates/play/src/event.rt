@@ -1,5 +1,5 @@
 //! The events of a run, what its state is made of, and its options.
-use crate::{Cause, Outcome};
+use crate::{Cause, Outcome, Workers};
 use cuts::Cut;
 use lp_base::Sequence;
 use lpcc_case::{Point, Ray};
@@ -102,7 +102,7 @@ pub enum ShrinkMode {
 #[derive(Clone, Copy, Debug, Drop, PartialEq, Eq)]
 pub struct Options {
     /// How many workers there are.
-    pub workers: u32,
+    pub workers: Workers,
     /// How many pieces may be drawn.
     pub pieces: u64,
     /// How many pivots a stage of a walk may make.

@@ -8,6 +8,7 @@ mod event;
 mod laws;
 mod outcome;
 mod piece_choices;
+mod workers;
 
 pub use ending::Ending;
 pub use event::{Aside, Direction, Event, Options, ShrinkMode, Ticket, VerdictKind};
@@ -17,3 +18,4 @@ pub use laws::{
 };
 pub use outcome::{Cause, Outcome};
 pub use piece_choices::choices_of;
+pub use workers::Workers;
