@@ -14,7 +14,8 @@ use Rattle.lpcc_case.specs.Instance.{Instance}
 use Rattle.dict.specs.Dictionaries.{Dictionary, form_at, nonbasic_after}
 use Rattle.dict.proofs.Pivots.{by_eq}
 use Rattle.walks.specs.Duals.{IsNamed, IsPlaced}
-use Rattle.walks.specs.Steps.{IsSized, number}
+use Rattle.lpcc_case.specs.Forms.{number}
+use Rattle.walks.specs.Steps.{IsSized}
 use Rattle.walks.proofs.Sets.{distinct_from, number_same}
 use Rattle.walks.proofs.Unique.{apart}
 use Rattle.basic_solutions.specs.Orders.{form_of}

@@ -3,7 +3,8 @@ ghost use Rattle.std.specs.Prelude.{◌≡◌, ◌<◌, ◌+◌, ◌++◌, ◌�
 ghost use Rattle.lp_base.specs.Ascending.{ascends_by};
 ghost use Rattle.dict.specs.Dictionaries.{form_at, nonbasic_after};
 ghost use Rattle.walks.specs.Duals.{IsNamed, IsPlaced};
-ghost use Rattle.walks.specs.Steps.{IsSized, number};
+ghost use Rattle.lpcc_case.specs.Forms.{number};
+ghost use Rattle.walks.specs.Steps.{IsSized};
 ghost use Rattle.basic_solutions.specs.Orders.{form_of};
 
 use dict::Dict;

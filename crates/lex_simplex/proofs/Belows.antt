@@ -12,7 +12,8 @@ use Rattle.dict.specs.Dictionaries.{Dictionary, row_at, form_at, entry_at}
 use Rattle.orders.specs.Order.{IsAbove, IsBelow, IsZero}
 use Rattle.orders.proofs.Orders.{above_below, by_lt}
 use Rattle.walks.specs.Values.{is_fixed, parts, value}
-use Rattle.walks.specs.Steps.{IsFirst, IsSized, number}
+use Rattle.lpcc_case.specs.Forms.{number}
+use Rattle.walks.specs.Steps.{IsFirst, IsSized}
 use Rattle.walks.proofs.Keeps.{free_inside}
 use Rattle.lex_simplex.specs.Firsts.{HasEps, is_loose}
 use Rattle.lex_simplex.proofs.Firsts.{zero_from}

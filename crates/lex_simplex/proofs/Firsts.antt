@@ -12,7 +12,8 @@ use Rattle.lpcc_case.specs.Points.{coefficient}
 use Rattle.dict.specs.Dictionaries.{Dictionary, form_at, entry_at, row_at}
 use Rattle.dict.proofs.Pivots.{by_eq}
 use Rattle.walks.specs.Duals.{Helps, NoneFree, NoneHelps}
-use Rattle.walks.specs.Steps.{IsFirst, MayExchange, number}
+use Rattle.lpcc_case.specs.Forms.{number}
+use Rattle.walks.specs.Steps.{IsFirst, MayExchange}
 use Rattle.lex_simplex.specs.Firsts.{FirstAmong, HasEps, place_at}
 
 -- a coefficient that is not 0 is that of a term

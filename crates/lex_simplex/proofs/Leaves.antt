@@ -13,7 +13,8 @@ use Rattle.dict.proofs.Pivots.{by_eq}
 use Rattle.orders.proofs.Orders.{above_cases, above_same, less_trans}
 use Rattle.walks.specs.Values.{is_fixed, parts, value}
 use Rattle.walks.specs.Duals.{IsPlaced}
-use Rattle.walks.specs.Steps.{IsSized, Blocks, IsLeaving, IsSooner, rate, distance, number}
+use Rattle.lpcc_case.specs.Forms.{number}
+use Rattle.walks.specs.Steps.{IsSized, Blocks, IsLeaving, IsSooner, rate, distance}
 use Rattle.walks.proofs.Keeps.{free_inside}
 use Rattle.walks.proofs.Unique.{apart}
 use Rattle.walks.proofs.Walks.{one_row, con_row}

@@ -6,7 +6,7 @@ use Rattle.lpcc_case.specs.declared.form.Form.{Form}
 use Rattle.lpcc_case.specs.declared.form.Form.TheVariants.{Col, Con, Cost}
 use Rattle.dict.specs.Dictionaries.{Dictionary, form_at, entry_at}
 use Rattle.walks.specs.Values.{is_fixed}
-use Rattle.walks.specs.Steps.{number}
+use Rattle.lpcc_case.specs.Forms.{number}
 
 -- the place of term i of a row
 abbrev pub place_at : List (ℕ × ℤ) → ℕ → ℕ

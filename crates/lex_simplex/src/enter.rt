@@ -5,7 +5,8 @@ ghost use Rattle.lpcc_case.specs.Points.{coefficient};
 ghost use Rattle.dict.specs.Terms.{AreTerms};
 ghost use Rattle.dict.specs.Dictionaries.{form_at, entry_at, row_at};
 ghost use Rattle.walks.specs.Duals.{Helps, IsNamed, NoneFree, NoneHelps, is_free};
-ghost use Rattle.walks.specs.Steps.{IsFirst, MayExchange, number};
+ghost use Rattle.lpcc_case.specs.Forms.{number};
+ghost use Rattle.walks.specs.Steps.{IsFirst, MayExchange};
 ghost use Rattle.lex_simplex.specs.Firsts.{FirstAmong};
 ghost use Rattle.lex_simplex.specs.Marks.{AreMarks};
 

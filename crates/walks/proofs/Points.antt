@@ -2,7 +2,7 @@
 use Rattle.std.proofs.Common.{ℕ, suc, ◌+◌, ◌<◌, ◌≤◌, ◌≡◌, ◌∙◌, refl, sym, ap, subst, arith, ℤ, pos, ◌+ℤ◌, ◌*ℤ◌, neg_ℤ, ◌<ℤ◌, ◌≤ℤ◌, List, [], ◌∷◌, ◌++◌, length, map, get_or, Bool, true, false, eqb, ◌||◌, ◌⊎◌, inl, inr}
 use Rattle.std.specs.Prelude.{unsigned_abs, All}
 use Rattle.std.specs.List.{list_any, range_with_len, enumerate_from}
-use Rattle.std.proofs.lemmas.Int.{ints, by_lt_z}
+use Rattle.std.proofs.lemmas.Int.{ints}
 use Rattle.std.proofs.lemmas.Bool.{eqb-true, eq-eqb, or_cases, or_right, cases_Bool}
 use Rattle.std.proofs.lemmas.List.{get_or_default, get_or_past}
 use Rattle.std.proofs.lemmas.List.Folds.{Any-from_list_any, list_any_at, list_any-append}
@@ -19,24 +19,21 @@ use Rattle.lpcc_case.specs.declared.form.Form.{Form}
 use Rattle.lpcc_case.specs.declared.form.Form.TheVariants.{Col, Con, Cost}
 use Rattle.lpcc_case.specs.Cases.{IsCase}
 use Rattle.lpcc_case.specs.Instance.{Instance, constraint_at, no_constraint, chosen, chosen_number}
-use Rattle.lpcc_case.specs.Points.{Point, MeetsAll, IsTightAt, Relates, Recedes, left_side, cost_at, coefficient}
-use Rattle.dict.specs.Terms.{weigh, only}
+use Rattle.lpcc_case.specs.Points.{Point, MeetsAll, IsTightAt, Relates, left_side, cost_at}
+use Rattle.dict.specs.Terms.{weigh}
 use Rattle.dict.specs.Equations.{Equation, Holds}
-use Rattle.dict.specs.Exchanges.{turn}
-use Rattle.dict.specs.Dictionaries.{Dictionary, row_at, form_at, entry_at}
+use Rattle.dict.specs.Dictionaries.{Dictionary, row_at, form_at}
 use Rattle.dict.specs.Forms.{IsDictionaryOf, affine_of, forms_of}
 use Rattle.dict.proofs.Machine.{is_pos}
-use Rattle.dict.proofs.SparseSums.{weigh_none, weigh_only, only_same, only_apart}
-use Rattle.dict.proofs.Pivots.{by_eq}
+use Rattle.dict.proofs.SparseSums.{weigh_none}
 use Rattle.orders.proofs.Orders.{by_lt, above_first}
 use Rattle.orders.specs.Order.{IsAbove}
 use Rattle.walks.specs.Values.{is_fixed, is_equation, is_chosen, value, parts}
-use Rattle.walks.specs.Duals.{IsPlaced, is_free}
+use Rattle.walks.specs.Duals.{IsPlaced}
 use Rattle.walks.specs.Steps.{IsSized}
-use Rattle.walks.specs.Bases.{IsBase, IsHeld, AreAbove, ArePassed, NoneBlocks, MayGo}
+use Rattle.walks.specs.Bases.{IsBase, IsHeld, AreAbove, ArePassed}
 use Rattle.walks.proofs.Bases.{Stands, SizedRows, base_holds, base_row}
 use Rattle.walks.proofs.Ends.{below_places, part_first}
-use Rattle.walks.proofs.Signs.{weigh_turn, turn_none}
 
 -- ---- where a constraint stands
 
@@ -93,11 +90,6 @@ zero_of den f hd h =
     let o : den *ℤ (f +ℤ neg_ℤ f) ≡ pos 0 = ap (λ z. den *ℤ z) (omega (arith, ints)) ∙ *ℤ-zero den in
     let down = positive_of den (neg_ℤ f) hd (omega (arith, ints, e, o, h)) in
     omega (arith, ints, up, down)
-
-negative_of : (den f : ℤ) → pos 0 <ℤ den → (den *ℤ f) <ℤ pos 0 → f <ℤ pos 0
-negative_of den f hd h =
-    by_lt_z f (pos 0) (λ below. below)
-    (λ ge. let m = Rattle.lp_base.proofs.Ring.mul_le_left den (pos 0) f (omega (arith, ints, hd)) ge in absurd (omega (arith, ints, m, h, *ℤ-zero den)))
 
 -- ---- constraints held at numbers of columns
 
@@ -208,81 +200,3 @@ basic_point_meets_all a tight d p kept sized placed above passed base =
     let inside : m < length d.rows = omega (arith, placed.size) in
     let row = subst (λ (f : Form). (row_at d.rows m).den *ℤ affine_of a f x (pos p.d) ≡ (row_at d.rows m).constant *ℤ pos p.d) placed.cost (row_constant (row_at d.rows m) (affine_of a (form_at d.basic m) x (pos p.d)) (pos p.d) (base_row a d zeros x (pos p.d) m kept sized.of sized.size (rows_sized a d sized) base placed.nonbasic inside)) in
     (held_relate a tight p.x (pos p.d) held, held_tight a tight p.x (pos p.d) held, ap (λ z. (row_at d.rows m).den *ℤ z) (sym (cost_is a p.x (pos p.d))) ∙ row)
-
--- ---- the ray
-
-abbrev pub along : Bool → ℕ → ℕ → ℤ
-along falls e j = turn falls (only e j)
-
-row_along : (q : Equation) (falls : Bool) (e : ℕ) (f : ℤ) → Holds q f (along falls e) (pos 0) → q.den *ℤ f ≡ turn falls (coefficient q.entries e)
-row_along q falls e f h =
-    let w : weigh q.entries (along falls e) ≡ turn falls (coefficient q.entries e) = weigh_turn falls q.entries (only e) ∙ ap (λ z. turn falls z) (weigh_only q.entries e) in
-    omega (arith, ints, h, w, *ℤ-zero q.constant)
-
--- the worth of a nonbasic constraint along the ray
-go_by : (a : Instance) (tight : List Choice) (falls : Bool) (f : Form) (k : ℕ) → MayGo a tight falls f → f ≡ Con k → (is_fixed a tight k ≡ false) × (falls ≡ false)
-go_by a tight falls (Con l) k go e = let same : l ≡ k = cc in subst (λ (n : ℕ). (is_fixed a tight n ≡ false) × (falls ≡ false)) same go
-go_by a tight falls (Col j) k go e = absurd (cc)
-go_by a tight falls Cost k go e = absurd (cc)
-
-free_of_go : (a : Instance) (tight : List Choice) (falls : Bool) (f : Form) → MayGo a tight falls f → is_free a tight f ≡ true
-free_of_go a tight falls (Col j) go = refl
-free_of_go a tight falls (Con k) go = Rattle.std.proofs.lemmas.Bool.not_from_false (is_fixed a tight k) go.0
-free_of_go a tight falls Cost go = absurd go
-
-pub ray_held : (a : Instance) (tight : List Choice) (falls : Bool) (e : ℕ) (d : Dictionary) (x : ℕ → ℤ) → IsCase a → IsSized a d → IsPlaced a d → ArePassed a tight (length a.constraints) d → e < length d.nonbasic → MayGo a tight falls (form_at d.nonbasic e) → NoneBlocks a tight falls e d → IsBase d (along falls e) x (pos 0) → IsHeld a tight x (pos 0)
-ray_held a tight falls e d x kept sized placed passed within go none base =
-    let rows = rows_sized a d sized in
-    let u = along falls e in
-    let at_place : (j k : ℕ) → j < length d.nonbasic → form_at d.nonbasic j ≡ Con k → affine_of a (Con k) x (pos 0) ≡ u j = λ j k h form.
-    subst (λ (f : Form). affine_of a f x (pos 0) ≡ u j) form (base_holds a d u x (pos 0) j kept sized.of sized.size rows base (placed.nonbasic j h) h) in
-    let at_row : (i k : ℕ) → i < length d.rows → form_at d.basic i ≡ Con k → (row_at d.rows i).den *ℤ affine_of a (Con k) x (pos 0) ≡ turn falls (coefficient (row_at d.rows i).entries e) = λ i k h form.
-    subst (λ (f : Form). (row_at d.rows i).den *ℤ affine_of a f x (pos 0) ≡ turn falls (coefficient (row_at d.rows i).entries e)) form (row_along (row_at d.rows i) falls e (affine_of a (form_at d.basic i) x (pos 0)) (base_row a d u x (pos 0) i kept sized.of sized.size rows base placed.nonbasic h)) in
-    record {
-      fixed = λ k lt fixed.
-          elim (con_stands a d k sized.of lt) [
-            | inl n ↦
-                by_eq n.0 e
-                (λ same.
-                let g = go_by a tight falls (form_at d.nonbasic e) k go (ap (λ i. form_at d.nonbasic i) (sym same) ∙ n.2) in
-                absurd (cc (g.0, fixed)))
-                (λ other. at_place n.0 k n.1 n.2 ∙ ap (λ z. turn falls z) (only_apart e n.0 other) ∙ turn_none falls)
-            | inr b ↦
-                let inside : b.0 < length d.rows = omega (arith, b.1, sized.size) in
-                let z = (passed b.0 k inside lt b.2 fixed).1 e within (free_of_go a tight falls (form_at d.nonbasic e) go) in
-                zero_of (row_at d.rows b.0).den (affine_of a (Con k) x (pos 0)) (rows b.0 inside).0 (at_row b.0 k inside b.2 ∙ ap (λ y. turn falls y) z ∙ turn_none falls)
-          ];
-      free = λ k lt free.
-          elim (con_stands a d k sized.of lt) [
-            | inl n ↦
-                by_eq n.0 e
-                (λ same.
-                let g = go_by a tight falls (form_at d.nonbasic e) k go (ap (λ i. form_at d.nonbasic i) (sym same) ∙ n.2) in
-                let up : along falls e n.0 ≡ pos 1 = ap (λ b. turn b (only e n.0)) g.1 ∙ ap (λ i. only e i) same ∙ only_same e in
-                omega (arith, ints, at_place n.0 k n.1 n.2, up))
-                (λ other.
-                let none_here = at_place n.0 k n.1 n.2 ∙ ap (λ z. turn falls z) (only_apart e n.0 other) ∙ turn_none falls in
-                omega (arith, ints, none_here))
-            | inr b ↦
-                let inside : b.0 < length d.rows = omega (arith, b.1, sized.size) in
-                positive_of (row_at d.rows b.0).den (affine_of a (Con k) x (pos 0)) (rows b.0 inside).0 (omega (arith, ints, at_row b.0 k inside b.2, none b.0 k inside b.2 free))
-          ];
-    }
-
-zero_right : (a : Instance) (xs : List ℤ) → All (λ c. Relates c.kind (left_side c.terms xs) (c.rhs *ℤ pos 0)) a.constraints → All (λ c. Relates c.kind (left_side c.terms xs) (pos 0)) a.constraints
-zero_right a xs all k d lt = subst (λ (z : ℤ). Relates (get_or a.constraints k d).kind (left_side (get_or a.constraints k d).terms xs) z) (*ℤ-zero (get_or a.constraints k d).rhs) (all k d lt)
-
-pub column_recedes : (a : Instance) (tight : List Choice) (falls : Bool) (e : ℕ) (d : Dictionary) (r : List ℤ) → IsCase a → IsSized a d → IsPlaced a d → ArePassed a tight (length a.constraints) d → e < length d.nonbasic → MayGo a tight falls (form_at d.nonbasic e) → NoneBlocks a tight falls e d → turn falls (entry_at d (length a.constraints) e) <ℤ pos 0 → length r ≡ a.columns → IsBase d (along falls e) (λ c. get_or r c (pos 0)) (pos 0) → Recedes a tight r
-column_recedes a tight falls e d r kept sized placed passed within go none helps size base =
-    let m = length a.constraints in
-    let x : ℕ → ℤ = λ c. get_or r c (pos 0) in
-    let held = ray_held a tight falls e d x kept sized placed passed within go none base in
-    let inside : m < length d.rows = omega (arith, placed.size) in
-    let rows = rows_sized a d sized in
-    let row = subst (λ (f : Form). (row_at d.rows m).den *ℤ affine_of a f x (pos 0) ≡ turn falls (coefficient (row_at d.rows m).entries e)) placed.cost (row_along (row_at d.rows m) falls e (affine_of a (form_at d.basic m) x (pos 0)) (base_row a d (along falls e) x (pos 0) m kept sized.of sized.size rows base placed.nonbasic inside)) in
-    record {
-      size = size;
-      keeps = zero_right a r (held_relate a tight r (pos 0) held);
-      stays = λ i c lt. held_tight a tight r (pos 0) held i c lt ∙ *ℤ-zero (chosen a (get_or tight i c)).rhs;
-      falls = subst (λ (z : ℤ). z <ℤ pos 0) (cost_is a r (pos 0)) (negative_of (row_at d.rows m).den (affine_of a Cost x (pos 0)) (rows m inside).0 (omega (arith, ints, row, helps)));
-    }

@@ -19,7 +19,7 @@ use Rattle.dict.proofs.Pivots.{by_eq}
 use Rattle.orders.specs.Counts.{count_set, IsChoiceOf}
 use Rattle.walks.specs.Values.{part, loosening, unit}
 use Rattle.walks.specs.Duals.{IsNamed}
-use Rattle.walks.specs.Steps.{number}
+use Rattle.lpcc_case.specs.Forms.{number}
 use Rattle.walks.proofs.Changes.{same_part}
 
 -- ---- forms and their numbers

@@ -16,7 +16,8 @@ use Rattle.dict.specs.Dictionaries.{Dictionary, row_at, form_at}
 use Rattle.dict.specs.Forms.{IsDictionaryOf, forms_of}
 use Rattle.orders.specs.Order.{IsZero}
 use Rattle.walks.specs.Values.{is_fixed, at_con, part, parts, value, margin}
-use Rattle.walks.specs.Steps.{number, IsSized}
+use Rattle.lpcc_case.specs.Forms.{number}
+use Rattle.walks.specs.Steps.{IsSized}
 use Rattle.dict.proofs.SparseSums.{weigh_none, weigh_same_below, terms_below}
 
 -- the numbers ascend

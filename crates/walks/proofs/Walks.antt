@@ -28,7 +28,7 @@ use Rattle.orders.proofs.Orders.{above_cases, by_lt}
 use Rattle.walks.specs.Values.{is_fixed, parts, value}
 use Rattle.walks.specs.Duals.{IsPlaced, IsNamed, NoneFree, Helps, is_free}
 use Rattle.walks.specs.Bases.{AreAbove, ArePassed}
-use Rattle.walks.specs.Steps.{IsSized, IsExchanged, IsFixing, IsPivot, MayExchange, goal, is_last}
+use Rattle.walks.specs.Steps.{IsSized, IsExchanged, IsFixing, IsPivot, goal, is_last}
 use Rattle.walks.specs.Climbs.{Standing, IsStanding, Climbs, IsClimb}
 use Rattle.walks.specs.Walks.{Place, place, IsSkipped, IsRaised, Leads, IsPath, IsOnWalk, IsSpentEnd, IsSound}
 use Rattle.walks.proofs.Sums.{weigh_where}
@@ -54,11 +54,11 @@ one_place a [] i l hi hl h e = absurd (omega arith)
 one_place a (y ∷ ys) zero zero hi hl h e = refl
 one_place a (y ∷ ys) zero (suc l) hi hl h e =
     let no = none_at (λ g. differ a y g ≡ false) ys l (omega (arith, hl)) h.0 in
-    let yes : differ a y (form_at ys l) ≡ true = eq-eqb (Rattle.walks.specs.Steps.number a y) (Rattle.walks.specs.Steps.number a (form_at ys l)) (ap (Rattle.walks.specs.Steps.number a) e) in
+    let yes : differ a y (form_at ys l) ≡ true = eq-eqb (Rattle.lpcc_case.specs.Forms.number a y) (Rattle.lpcc_case.specs.Forms.number a (form_at ys l)) (ap (Rattle.lpcc_case.specs.Forms.number a) e) in
     absurd (cc (no, yes))
 one_place a (y ∷ ys) (suc i) zero hi hl h e =
     let no = none_at (λ g. differ a y g ≡ false) ys i (omega (arith, hi)) h.0 in
-    let yes : differ a y (form_at ys i) ≡ true = eq-eqb (Rattle.walks.specs.Steps.number a y) (Rattle.walks.specs.Steps.number a (form_at ys i)) (ap (Rattle.walks.specs.Steps.number a) (sym e)) in
+    let yes : differ a y (form_at ys i) ≡ true = eq-eqb (Rattle.lpcc_case.specs.Forms.number a y) (Rattle.lpcc_case.specs.Forms.number a (form_at ys i)) (ap (Rattle.lpcc_case.specs.Forms.number a) (sym e)) in
     absurd (cc (no, yes))
 one_place a (y ∷ ys) (suc i) (suc l) hi hl h e = ap suc (one_place a ys i l (omega (arith, hi)) (omega (arith, hl)) h.1 e)
 

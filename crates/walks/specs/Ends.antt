@@ -10,7 +10,7 @@ use Rattle.lpcc_case.specs.declared.point.Ray.{Ray}
 use Rattle.cuts.specs.declared.reason.WideAt.{WideAt}
 use Rattle.cuts.specs.declared.reason.SpentAt.{SpentAt}
 use Rattle.walks.specs.Divisors.{AreCoprime}
-use Rattle.walks.specs.Steps.{number}
+use Rattle.lpcc_case.specs.Forms.{number}
 use Rattle.walks.specs.Walks.{IsSpentEnd, IsWideEnd}
 
 -- the numbers of a point of the instance, in lowest terms, that meets all constraints and is tight at the choices

@@ -4,7 +4,7 @@ use Rattle.std.specs.List.Sorted.{IsNonDecreasingBy}
 use Rattle.std.proofs.lemmas.List.Sorted.{IsNonDecreasingBy-from_sort}
 use Rattle.lp_base.specs.Ascending.{ascends_by}
 use Rattle.lpcc_case.specs.declared.form.Form.{Form}
-use Rattle.walks.specs.Steps.{number}
+use Rattle.lpcc_case.specs.Forms.{number}
 use Rattle.basic_solutions.specs.Orders.{form_of}
 use Rattle.basic_solutions.proofs.FormSteps.{forms_ascend, same_forms}
 use Rattle.basic_solutions.proofs.forms.in_order.Goals as goal

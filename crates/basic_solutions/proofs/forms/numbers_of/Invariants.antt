@@ -1,5 +1,5 @@
 use Rattle.std.proofs.Common.{◌≡◌, ◌++◌, drop, map}
-use Rattle.walks.specs.Steps.{number}
+use Rattle.lpcc_case.specs.Forms.{number}
 use Rattle.basic_solutions.proofs.forms.numbers_of.Given as goal
 
 abbrev pub invariant-loop-form : goal.invariant-loop-form
