@@ -1,5 +1,5 @@
 -- Why the no-goods of lines that do not fail leave nothing lower out.
-use Rattle.std.proofs.Common.{ℕ, zero, suc, ◌-◌, ◌<◌, ◌≤◌, ◌≡◌, refl, sym, subst, arith, ℤ, pos, ◌*ℤ◌, ◌≤ℤ◌, true, List, [], length, map, get_or, take, add-one, inl, inr, Option, Some, None}
+use Rattle.std.proofs.Common.{ℕ, zero, suc, ◌-◌, ◌<◌, ◌≤◌, refl, subst, arith, ℤ, pos, ◌*ℤ◌, ◌≤ℤ◌, List, [], length, map, get_or, take, add-one, inl, inr, Option, Some, None}
 use Rattle.std.specs.Prelude.{All}
 use Rattle.std.proofs.lemmas.List.{take_all}
 use Rattle.std.proofs.lemmas.List.Elements.{All-nil, All-more, All-map, All-weaker}

@@ -1,6 +1,5 @@
 //! The points and rays of a certificate, given by the columns that are not zero.
-ghost use Rattle.std.specs.Prelude.{◌≡◌, ◌↔◌, ◌≤ℤ◌, All, IfNone, IfOk, IfSome, IsTrue, length, map, pos};
-ghost use Rattle.std.specs.List.{range_with_len};
+ghost use Rattle.std.specs.Prelude.{◌≡◌, ◌↔◌, IfNone, IfOk, IfSome, IsTrue};
 ghost use Rattle.lp_base.specs.Sums.{dot};
 ghost use Rattle.lpcc_case.specs.NarrowPoints.{AreNumbersOf, IsPointFor};
 ghost use Rattle.lpcc_case.specs.Points as points;

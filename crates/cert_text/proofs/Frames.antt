@@ -10,7 +10,7 @@ use Rattle.cert_text.specs.declared.cert.Cert.TheVariants.{Optimal, Infeasible, 
 use Rattle.cert_text.specs.declared.cert.CertPoint.{CertPoint}
 use Rattle.cert_text.specs.declared.cert.CertLine.{CertLine}
 use Rattle.cert_text.specs.declared.fault.CertWhy.{CertWhy}
-use Rattle.cert_text.specs.declared.fault.CertWhy.TheVariants.{BadHead, BadLine, NotEnded, AfterEnd}
+use Rattle.cert_text.specs.declared.fault.CertWhy.TheVariants.{BadHead, NotEnded, AfterEnd}
 use Rattle.cert_text.specs.declared.read.Kind.{Kind}
 use Rattle.cert_text.specs.declared.read.Kind.TheVariants as kinds
 use Rattle.cert_text.specs.Spelling.{Word, colon, choice_word, term_words}

@@ -5,7 +5,7 @@ use Rattle.cert_text.specs.declared.cert.Cert.{Cert}
 use Rattle.cert_text.specs.declared.cert.Cert.TheVariants.{Optimal as OptimalCert, Infeasible as InfeasibleCert, Unbounded as UnboundedCert}
 use Rattle.cert_text.specs.declared.cert.CertLine.{CertLine}
 use Rattle.cert_text.specs.declared.fault.CertWhy.{CertWhy}
-use Rattle.cert_text.specs.declared.fault.CertWhy.TheVariants.{BadHead, BadLine, NotEnded, AfterEnd}
+use Rattle.cert_text.specs.declared.fault.CertWhy.TheVariants.{BadHead, NotEnded, AfterEnd}
 use Rattle.cert_text.specs.declared.fault.CertFault.{CertFault}
 use Rattle.cert_text.specs.declared.fault.CertFault.TheVariants.{NoMemory, At}
 use Rattle.cert_text.specs.declared.words.Fault.{Fault}

@@ -1,5 +1,5 @@
 //! The content lines of a text.
-ghost use Rattle.std.specs.Prelude.{◌≡◌, ◌<◌, ◌+◌, ◌-◌, ◌^◌, ◌∷◌, [], Ok, Err, length, true, false};
+ghost use Rattle.std.specs.Prelude.{◌≡◌, ◌<◌, ◌+◌, ◌-◌, ◌^◌, Ok, Err, length, true, false};
 ghost use Rattle.cert_text.specs.Lines.{is_comment, is_content};
 ghost use Rattle.cert_text.specs.Steps.{NextIn, all_lines, NextIs, Finds, whole_line, placed};
 

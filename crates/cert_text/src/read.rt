@@ -1,12 +1,12 @@
 //! Reading a certificate, line by line.
-ghost use Rattle.std.specs.Prelude.{◌≡◌, ◌<◌, ◌-◌, ◌^◌, ℕ, IfOk, IfErr, Ok, Err, bytes_eq, codes, length};
+ghost use Rattle.std.specs.Prelude.{◌≡◌, ◌<◌, ◌-◌, ◌^◌, ℕ, IfOk, IfErr, Ok, Err, length};
 ghost use Rattle.cert_text.specs.declared.cert.Cert.{Cert as Certificate};
 ghost use Rattle.cert_text.specs.declared.fault.CertWhy.{CertWhy as Why};
 ghost use Rattle.cert_text.specs.Faults.{is_last};
 ghost use Rattle.cert_text.specs.Reading.{kind_at, point_at, value_at, piece_at, ray_at};
 ghost use Rattle.cert_text.specs.Texts.{Spells, FailsAs, Fails, found_by};
 ghost use Rattle.lp_base.specs.Answers.{Gives, Refuses};
-ghost use Rattle.cert_text.specs.Steps.{Finds, Reads, all_lines, line_as, head_step, kind_step, entry_at, entry_step, log_step, last_step, optimal_step, infeasible_step, unbounded_step, step_of, behind_end, cert_at};
+ghost use Rattle.cert_text.specs.Steps.{Finds, Reads, line_as, head_step, kind_step, entry_at, entry_step, log_step, last_step, optimal_step, infeasible_step, unbounded_step, step_of, behind_end, cert_at};
 
 use crate::lines::{Lines, Next};
 use crate::rows::{parse_end, parse_line, parse_piece, parse_point, parse_ray, parse_value};

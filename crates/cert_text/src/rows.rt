@@ -1,5 +1,4 @@
 //! The forms of lines.
-ghost use Rattle.std.specs.Prelude.{◌≡◌, bytes_eq, codes};
 ghost use Rattle.cert_text.specs.Reading.{bound_at, point_at, value_at, piece_at, ray_at, ray_cut_at, point_cut_at, derived_at, cut_at, line_at, end_at};
 ghost use Rattle.cert_text.specs.Steps.{Reads};
 

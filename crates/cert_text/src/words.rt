@@ -1,5 +1,5 @@
 //! Single words: numbers and choices.
-ghost use Rattle.std.specs.Prelude.{◌≡◌, ◌<◌, ◌≤◌, ◌^◌, ◌-◌, ◌≤ℤ◌, pos, IfOk, unsigned_abs};
+ghost use Rattle.std.specs.Prelude.{◌≡◌, ◌<◌, ◌≤◌, ◌^◌, ◌-◌, IfOk, unsigned_abs};
 ghost use Rattle.lp_base.specs.Numbers.{IsNarrow};
 ghost use Rattle.cert_text.specs.declared.words.Fault.TheVariants.{Memory, Of};
 ghost use Rattle.cert_text.specs.Reading.{below_zero, counted, index_at, positive, positive_at, factor, factor_at, cost_value, cost_value_at, count, count_at, side_at, chosen, choice_at, number_at, hint_at};

@@ -1,5 +1,5 @@
 -- A text that was written is read as the certificate that it was written from.
-use Rattle.std.proofs.Common.{ℕ, ◌+◌, ◌-◌, ◌^◌, ◌≤◌, ◌<◌, ◌≡◌, sym, subst, arith, List, [], ◌∷◌, ◌++◌, length, map, Result, Ok}
+use Rattle.std.proofs.Common.{ℕ, ◌+◌, ◌-◌, ◌^◌, ◌≤◌, ◌<◌, ◌≡◌, sym, subst, arith, List, [], ◌∷◌, ◌++◌, length, map, Result}
 use Rattle.std.proofs.lemmas.List.{length-append, length-map}
 use Rattle.lp_base.specs.Answers.{Gives}
 use Rattle.cert_text.specs.declared.cert.Cert.{Cert}
@@ -7,7 +7,7 @@ use Rattle.cert_text.specs.declared.cert.Cert.TheVariants.{Optimal, Infeasible, 
 use Rattle.cert_text.specs.declared.cert.CertLine.{CertLine}
 use Rattle.cert_text.specs.declared.fault.CertFault.{CertFault}
 use Rattle.cert_text.specs.Certs.{KeepsForm, lines_of}
-use Rattle.cert_text.specs.Spelling.{Word, cert_lines, cert_words, end_words, line_bytes, line_words, log_words, spelling, text_of}
+use Rattle.cert_text.specs.Spelling.{cert_lines, cert_words, end_words, line_bytes, line_words, log_words, spelling, text_of}
 use Rattle.cert_text.specs.Texts.{Spells, found_by}
 use Rattle.cert_text.proofs.Certificates.{spelling_spells}
 

@@ -1,5 +1,5 @@
 //! Reading what was written.
-ghost use Rattle.std.specs.Prelude.{◌<◌, ◌-◌, ◌^◌, Ok, length};
+ghost use Rattle.std.specs.Prelude.{◌<◌, ◌-◌, ◌^◌, length};
 ghost use Rattle.cert_text.specs.Certs.{KeepsForm};
 ghost use Rattle.cert_text.specs.Spelling.{spelling};
 ghost use Rattle.cert_text.specs.Texts.{found_by};

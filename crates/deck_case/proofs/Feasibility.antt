@@ -15,7 +15,7 @@ use Rattle.lp_nums.specs.Fractions.{Fraction, SameValue}
 use Rattle.lpcc_case.specs.declared.constraint.Constraint.{Constraint}
 use Rattle.lpcc_case.specs.Instance.{constraint_at, no_constraint}
 use Rattle.lpcc_case.specs.Points.{Point, IsFeasible, IsTight, Meets, left_side}
-use Rattle.decks.specs.Decks.{IsColumn, IsDeck, NamesQuantity, entries_of, is_inequality}
+use Rattle.decks.specs.Decks.{IsColumn, IsDeck, NamesQuantity, entries_of}
 use Rattle.decks.specs.Decks as decks
 use Rattle.decks.specs.declared.deck.Column.{Column}
 use Rattle.decks.specs.declared.deck.Deck.{Deck}

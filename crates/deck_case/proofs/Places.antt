@@ -8,7 +8,7 @@ use Rattle.lp_nums.specs.Fractions.{Fraction}
 use Rattle.lpcc_case.specs.declared.constraint.Constraint.{Constraint}
 use Rattle.lpcc_case.specs.declared.constraint.Kind.TheVariants.{Ge}
 use Rattle.lpcc_case.specs.Cases.{NamesInequality}
-use Rattle.decks.specs.Decks.{IsDeck, NamesQuantity, entries_of, is_inequality}
+use Rattle.decks.specs.Decks.{NamesQuantity, entries_of, is_inequality}
 use Rattle.decks.specs.Decks as decks
 use Rattle.decks.specs.declared.deck.Column.{Column}
 use Rattle.decks.specs.declared.deck.Deck.{Deck}

@@ -7,7 +7,7 @@ use Rattle.lpcc_case.specs.Instance.{Instance}
 use Rattle.decks.specs.Decks.{entries_of}
 use Rattle.decks.specs.declared.deck.Deck.{Deck}
 use Rattle.decks.specs.declared.deck.Letter.{Letter}
-use Rattle.decks.specs.declared.deck.Letter.TheVariants.{N, E, L, G}
+use Rattle.decks.specs.declared.deck.Letter.TheVariants.{L}
 use Rattle.decks.specs.declared.deck.PairLine.{PairLine}
 use Rattle.decks.specs.declared.deck.Quantity.{Quantity}
 use Rattle.decks.specs.declared.deck.Quantity.TheVariants.{Col, Row}
@@ -20,10 +20,8 @@ use Rattle.deck_case.specs.Wide.{wide_lines}
 
 -- the pair's side is the upper one
 abbrev pub is_upper : Letter → Bool
-is_upper N = false
-is_upper E = false
 is_upper L = true
-is_upper G = false
+is_upper letter = false
 
 -- how many constraints stand before those of row i, and of column j
 abbrev pub before_row : Deck → ℕ → ℕ

@@ -15,10 +15,9 @@ between lower upper = record { lower = lower; upper = upper }
 
 -- whether a range reaches downward from the right-hand side: that of an L row, and a negative one of an E row
 abbrev pub reaches_down : Letter → Fraction → Bool
-reaches_down N range = false
 reaches_down E range = int_lt range.num (pos 0)
 reaches_down L range = true
-reaches_down G range = false
+reaches_down letter range = false
 
 -- the sides of a row with right-hand side b
 abbrev pub sides : Letter → Fraction → Option Fraction → Sides

@@ -1,5 +1,5 @@
 -- What is too wide for a case, and the line that names it.
-use Rattle.std.specs.Prelude.{ℕ, ℤ, ◌^◌, ◌++◌, pos, Bool, nat_lt, List, [], ◌∷◌, unsigned_abs, if◌then◌else◌}
+use Rattle.std.specs.Prelude.{ℕ, ℤ, ◌++◌, pos, Bool, nat_lt, List, [], ◌∷◌, unsigned_abs, if◌then◌else◌}
 use Rattle.std.specs.List.{enumerate_from, flat_map, list_any}
 use Rattle.std.specs.Option.{option_map_or}
 use Rattle.lp_base.specs.declared.limits.TheConstants.{LARGEST_OF_CASE}

@@ -1,5 +1,5 @@
 //! The rows of a deck in its case.
-ghost use Rattle.std.specs.Prelude.{◌≡◌, ◌≢◌, ◌+◌, ◌<◌, ◌++◌, ◌∷◌, [], All, IfErr, IfOk, IsTrue, None, OnOk, length, map, pos, take};
+ghost use Rattle.std.specs.Prelude.{◌≡◌, ◌≢◌, ◌+◌, ◌<◌, ◌++◌, ◌∷◌, [], All, IfErr, IfOk, IsTrue, OnOk, length, map, pos};
 ghost use Rattle.std.specs.List.{enumerate_from, range_with_len};
 ghost use Rattle.lp_base.specs.Ascending.{ascends_by};
 ghost use Rattle.decks.specs.declared.deck.Letter.TheVariants.{N};

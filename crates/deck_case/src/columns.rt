@@ -3,7 +3,7 @@ ghost use Rattle.std.specs.Prelude.{◌≡◌, ◌+◌, ◌∷◌, ◌++◌, ◌
 ghost use Rattle.std.specs.List.{enumerate_from, flat_map, range_with_len};
 ghost use Rattle.deck_case.specs.CaseParts.{constraints_of_column, constraints_of_columns, fixed_at, for_bound, lower_bound, upper_bound};
 ghost use Rattle.deck_case.specs.Steps.{IsFirstOf};
-ghost use Rattle.deck_case.specs.Wide.{is_wide, named, wide_bound, wide_column};
+ghost use Rattle.deck_case.specs.Wide.{named, wide_bound, wide_column};
 
 use crate::CaseFault;
 use crate::entries::Terms;

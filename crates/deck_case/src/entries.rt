@@ -1,5 +1,5 @@
 //! The entries of each row, and their terms.
-ghost use Rattle.std.specs.Prelude.{◌≡◌, ◌<◌, ◌≤◌, ◌^◌, [], All, IfErr, IfOk, false, map, replicate};
+ghost use Rattle.std.specs.Prelude.{◌≡◌, ◌<◌, ◌≤◌, [], All, IfErr, IfOk, false, map, replicate};
 ghost use Rattle.std.specs.List.{range_with_len};
 ghost use Rattle.lp_base.specs.declared.limits.TheConstants.{LARGEST_OF_CASE};
 ghost use Rattle.decks.specs.Decks.{entries_of};

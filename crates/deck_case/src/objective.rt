@@ -1,5 +1,5 @@
 //! The objective: the cost of each column, the constant and what both are multiplied by.
-ghost use Rattle.std.specs.Prelude.{◌≡◌, ◌<◌, ◌≤◌, ◌^◌, [], All, IfErr, IfOk, IsTrue, None, map, neg_ℤ, pos, unsigned_abs};
+ghost use Rattle.std.specs.Prelude.{◌≡◌, ◌<◌, [], All, IfErr, IfOk, IsTrue, None, map, pos};
 ghost use Rattle.std.specs.List.{range_with_len};
 ghost use Rattle.lp_base.specs.Ascending.{ascends_by, number_of};
 ghost use Rattle.lpcc_case.specs.Points.{coefficient};

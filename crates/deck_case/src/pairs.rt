@@ -1,5 +1,5 @@
 //! Pairs as numbers of constraints.
-ghost use Rattle.std.specs.Prelude.{◌≡◌, ◌≤◌, ◌<◌, ◌^◌, All, IfOk, length, map};
+ghost use Rattle.std.specs.Prelude.{◌≡◌, ◌≤◌, ◌<◌, IfOk, length, map};
 ghost use Rattle.std.specs.List.{range_with_len};
 ghost use Rattle.lp_base.specs.declared.limits.TheConstants.{MOST_CONSTRAINTS};
 ghost use Rattle.decks.specs.Decks.{IsDeck, NamesQuantity};

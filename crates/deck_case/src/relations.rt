@@ -1,5 +1,5 @@
 //! Constraints of one end.
-ghost use Rattle.std.specs.Prelude.{◌≡◌, ◌<◌, ◌≤◌, ◌^◌, ◌++◌, All, IfOk, IfSome, OnOk, unsigned_abs};
+ghost use Rattle.std.specs.Prelude.{◌≡◌, ◌<◌, ◌≤◌, ◌++◌, All, IfOk, IfSome, OnOk, unsigned_abs};
 ghost use Rattle.std.specs.Option.{option_map, option_to_list};
 ghost use Rattle.lp_base.specs.declared.limits.TheConstants.{LARGEST_OF_CASE};
 ghost use Rattle.deck_case.specs.CaseParts.{at_least, at_most, equal_to, negated};

@@ -1,5 +1,5 @@
 //! Rows as constraints.
-ghost use Rattle.std.specs.Prelude.{◌≡◌, ◌≢◌, ◌<◌, ◌≤◌, ◌^◌, ◌++◌, ◌∷◌, [], ℤ, All, IfErr, IfSome, OnOk, None, Some, true, false, if◌then◌else◌, unsigned_abs};
+ghost use Rattle.std.specs.Prelude.{◌≡◌, ◌≢◌, ◌<◌, ◌≤◌, ◌++◌, ◌∷◌, [], ℤ, All, IfErr, IfSome, OnOk, None, Some, true, false, if◌then◌else◌, unsigned_abs};
 ghost use Rattle.std.specs.Option.{option_map};
 ghost use Rattle.lp_base.specs.declared.limits.TheConstants.{LARGEST_OF_CASE};
 ghost use Rattle.decks.specs.Decks.{IsDeckNumber};

@@ -26,9 +26,7 @@ abbrev pub takes_value : BoundKind → Bool
 takes_value Up = true
 takes_value Lo = true
 takes_value Fx = true
-takes_value Fr = false
-takes_value Mi = false
-takes_value Pl = false
+takes_value kind = false
 
 -- what stands behind the kind: a set, a column and a value. A missing set is the empty name, which no field is, and so
 -- is a value that is not read
@@ -41,14 +39,10 @@ pub record BoundWords : Type 0 where
 abbrev pub bound_words : Bool → List Name → Option BoundWords
 bound_words true (c ∷ v ∷ []) = Some (record { set = []; column = c; value = v })
 bound_words true (t ∷ c ∷ v ∷ []) = Some (record { set = t; column = c; value = v })
-bound_words true [] = None
-bound_words true (c ∷ []) = None
-bound_words true (t ∷ c ∷ v ∷ w ∷ fs) = None
 bound_words false (c ∷ []) = Some (record { set = []; column = c; value = [] })
 bound_words false (t ∷ c ∷ []) = Some (record { set = t; column = c; value = [] })
 bound_words false (t ∷ c ∷ v ∷ []) = Some (record { set = t; column = c; value = [] })
-bound_words false [] = None
-bound_words false (t ∷ c ∷ v ∷ w ∷ fs) = None
+bound_words takes fs = None
 
 -- what a line of BOUNDS says
 pub record Setting : Type 0 where
@@ -110,12 +104,8 @@ upper_by Mi v = None
 upper_by Pl v = Some None
 
 abbrev pub is_fx : BoundKind → Bool
-is_fx Up = false
-is_fx Lo = false
 is_fx Fx = true
-is_fx Fr = false
-is_fx Mi = false
-is_fx Pl = false
+is_fx kind = false
 
 -- a bound behind a line that leaves it or sets it
 abbrev pub bound_behind : ℕ → Bound → Option (Option Fraction) → Bound

@@ -10,7 +10,7 @@ use Rattle.decks.specs.declared.deck.Row as rows
 use Rattle.decks.specs.declared.deck.Quantity.{Quantity}
 use Rattle.decks.specs.declared.deck.Quantity.TheVariants.{Col, Row}
 use Rattle.decks.specs.declared.deck.Letter.{Letter}
-use Rattle.decks.specs.declared.deck.Letter.TheVariants.{N, E, L, G}
+use Rattle.decks.specs.declared.deck.Letter.TheVariants.{N, L, G}
 
 abbrev pub entry_column : Entry → ℕ
 entry_column e = e.column
@@ -40,10 +40,9 @@ pub record IsColumn (c : Column) : Type 0 where
 
 -- pairs speak of L and G rows
 abbrev pub is_inequality : Letter → Bool
-is_inequality N = false
-is_inequality E = false
 is_inequality L = true
 is_inequality G = true
+is_inequality letter = false
 
 -- a column that is not fixed and has the lower bound 0, or an L or G row
 abbrev pub NamesQuantity : Deck → Quantity → Type 0

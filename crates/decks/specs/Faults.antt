@@ -40,17 +40,14 @@ many_rows_fault rows l = fault_if (not (is_n (letter_of l)) && nat_le MOST_ROWS 
 -- a line of ROWS, below these rows
 abbrev pub row_fault : List RowLine → List Name → Option DeckWhy
 row_fault rows (l ∷ n ∷ []) = fault_if (not (is_letter l)) RowLetter or fault_if (is_some (row_named rows n)) NameTwice or many_rows_fault rows l
-row_fault rows [] = Some FieldCount
-row_fault rows (l ∷ []) = Some FieldCount
-row_fault rows (l ∷ n ∷ m ∷ fs) = Some FieldCount
+row_fault rows fs = Some FieldCount
 
 -- ---- COLUMNS
 
 -- a marker of integer columns, whatever else the line has
 abbrev pub marker_fault : List Name → Option DeckWhy
-marker_fault [] = None
-marker_fault (c ∷ []) = None
 marker_fault (c ∷ r ∷ fs) = fault_if (bytes_eq r (codes "'MARKER'")) IntegerMarker
+marker_fault fs = None
 
 -- a column's name stands already, but not as the last one
 abbrev pub split_fault : List Name → Name → Option DeckWhy
@@ -74,11 +71,7 @@ column_words_fault rows columns here entries (c ∷ r ∷ v ∷ []) =
     split_fault columns c or entry_fault rows (has here r) r v or full_fault columns entries c 1
 column_words_fault rows columns here entries (c ∷ r ∷ v ∷ s ∷ w ∷ []) =
     split_fault columns c or two_entries_fault rows here r v s w or full_fault columns entries c 2
-column_words_fault rows columns here entries [] = Some FieldCount
-column_words_fault rows columns here entries (c ∷ []) = Some FieldCount
-column_words_fault rows columns here entries (c ∷ r ∷ []) = Some FieldCount
-column_words_fault rows columns here entries (c ∷ r ∷ v ∷ s ∷ []) = Some FieldCount
-column_words_fault rows columns here entries (c ∷ r ∷ v ∷ s ∷ w ∷ x ∷ fs) = Some FieldCount
+column_words_fault rows columns here entries fs = Some FieldCount
 
 abbrev pub column_fault : List RowLine → List Name → List Name → ℕ → List Name → Option DeckWhy
 column_fault rows columns here entries fs = marker_fault fs or column_words_fault rows columns here entries fs
@@ -103,9 +96,7 @@ row_values_fault rows set gs (r ∷ v ∷ []) = set_fault set [] or one_row_valu
 row_values_fault rows set gs (t ∷ r ∷ v ∷ []) = set_fault set t or one_row_value_fault rows gs r v
 row_values_fault rows set gs (r ∷ v ∷ s ∷ w ∷ []) = set_fault set [] or two_row_values_fault rows gs r v s w
 row_values_fault rows set gs (t ∷ r ∷ v ∷ s ∷ w ∷ []) = set_fault set t or two_row_values_fault rows gs r v s w
-row_values_fault rows set gs [] = Some FieldCount
-row_values_fault rows set gs (t ∷ []) = Some FieldCount
-row_values_fault rows set gs (t ∷ r ∷ v ∷ s ∷ w ∷ x ∷ fs) = Some FieldCount
+row_values_fault rows set gs fs = Some FieldCount
 
 -- ---- BOUNDS
 
@@ -167,19 +158,12 @@ many_pairs_fault pairs = fault_if (nat_le MOST_PAIRS (length pairs)) TooMany
 abbrev pub pair_fault : List RowLine → List Name → (Name → Column) → List Name → List Name → Option DeckWhy
 pair_fault rows columns bounds pairs (p ∷ k ∷ a ∷ l ∷ b ∷ []) =
     pair_front_fault pairs p k l or quantities_fault rows columns bounds k a l b or many_pairs_fault pairs
-pair_fault rows columns bounds pairs [] = Some FieldCount
-pair_fault rows columns bounds pairs (p ∷ []) = Some FieldCount
-pair_fault rows columns bounds pairs (p ∷ k ∷ []) = Some FieldCount
-pair_fault rows columns bounds pairs (p ∷ k ∷ a ∷ []) = Some FieldCount
-pair_fault rows columns bounds pairs (p ∷ k ∷ a ∷ l ∷ []) = Some FieldCount
-pair_fault rows columns bounds pairs (p ∷ k ∷ a ∷ l ∷ b ∷ c ∷ fs) = Some FieldCount
+pair_fault rows columns bounds pairs fs = Some FieldCount
 
 -- ---- lines
 
 -- a data line in a section, below the lines before it
 abbrev pub data_fault : Open → List Line → List Name → Option DeckWhy
-data_fault None before fs = Some SectionOrder
-data_fault (Some section.Name) before fs = Some SectionOrder
 data_fault (Some section.Rows) before fs = row_fault (rows_of (slice section.Rows before)) fs
 data_fault (Some section.Columns) before fs =
     let entries = entries_in (slice section.Columns before) in
@@ -194,7 +178,7 @@ data_fault (Some section.Bounds) before fs =
     bound_fault (column_names (slice section.Columns before)) (first_set bound_set (slice section.Bounds before)) fs
 data_fault (Some section.Pairs) before fs =
     pair_fault (rows_of (slice section.Rows before)) (column_names (slice section.Columns before)) (column_bounds (settings_in (slice section.Bounds before))) (pair_names (slice section.Pairs before)) fs
-data_fault (Some section.Endata) before fs = Some SectionOrder
+data_fault s before fs = Some SectionOrder
 
 -- a fault with the line at which it is named
 abbrev pub Found : Type 0

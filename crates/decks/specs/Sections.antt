@@ -4,7 +4,7 @@ use Rattle.std.specs.List.{list_any}
 use Rattle.mps_lex.specs.declared.line.Section.{Section}
 use Rattle.mps_lex.specs.declared.line.Section.TheVariants.{Name, Rows, Columns, Rhs, Ranges, Bounds, Pairs, Endata}
 use Rattle.mps_lex.specs.declared.line.LineKind.{LineKind}
-use Rattle.mps_lex.specs.declared.line.LineKind.TheVariants.{Blank, Comment, Head, LeftOut, Unknown, Entry}
+use Rattle.mps_lex.specs.declared.line.LineKind.TheVariants.{Head, Entry}
 use Rattle.mps_lex.specs.Lines.{Line}
 
 abbrev pub section_number : Section → ℕ
@@ -31,21 +31,13 @@ is_open t (Some s) = same_section t s
 -- ---- slices
 
 abbrev pub is_entry : LineKind → Bool
-is_entry Blank = false
-is_entry Comment = false
-is_entry (Head s) = false
-is_entry LeftOut = false
-is_entry Unknown = false
 is_entry Entry = true
+is_entry kind = false
 
 -- what stands open behind a line
 abbrev pub behind : Open → LineKind → Open
-behind s Blank = s
-behind s Comment = s
 behind s (Head t) = Some t
-behind s LeftOut = s
-behind s Unknown = s
-behind s Entry = s
+behind s kind = s
 
 -- what stands open behind lines, where s stood open before them
 abbrev pub open_from : Open → List Line → Open
@@ -70,12 +62,8 @@ slice t ls = slice_from t None ls
 -- ---- the order of heads
 
 abbrev pub is_head : Section → LineKind → Bool
-is_head t Blank = false
-is_head t Comment = false
 is_head t (Head s) = same_section t s
-is_head t LeftOut = false
-is_head t Unknown = false
-is_head t Entry = false
+is_head t kind = false
 
 -- whether a section is begun in lines
 abbrev pub is_begun : Section → List Line → Bool

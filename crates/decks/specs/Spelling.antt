@@ -33,9 +33,7 @@ letter_of w =
 
 abbrev pub is_n : Letter → Bool
 is_n N = true
-is_n E = false
-is_n L = false
-is_n G = false
+is_n letter = false
 
 -- what a line of ROWS says: a row with its place in the deck, if it has one
 pub record RowLine : Type 0 where
@@ -91,11 +89,7 @@ row_value r v = (r, value_of v)
 abbrev pub values_on : List Name → List RowValue
 values_on (c ∷ r ∷ v ∷ []) = row_value r v ∷ []
 values_on (c ∷ r ∷ v ∷ s ∷ w ∷ []) = row_value r v ∷ row_value s w ∷ []
-values_on [] = []
-values_on (c ∷ []) = []
-values_on (c ∷ r ∷ []) = []
-values_on (c ∷ r ∷ v ∷ s ∷ []) = []
-values_on (c ∷ r ∷ v ∷ s ∷ w ∷ x ∷ fs) = []
+values_on fs = []
 
 -- an entry as lines name it: a column, with a row and a value
 pub record NamedEntry : Type 0 where
@@ -136,20 +130,14 @@ deck_entries rows columns es = flat_map (entry_of rows columns) es
 abbrev pub row_values_set : List Name → Name
 row_values_set (t ∷ r ∷ v ∷ []) = t
 row_values_set (t ∷ r ∷ v ∷ s ∷ w ∷ []) = t
-row_values_set [] = []
-row_values_set (t ∷ []) = []
-row_values_set (r ∷ v ∷ []) = []
-row_values_set (r ∷ v ∷ s ∷ w ∷ []) = []
-row_values_set (t ∷ r ∷ v ∷ s ∷ w ∷ x ∷ fs) = []
+row_values_set fs = []
 
 abbrev pub row_values_on : List Name → List RowValue
 row_values_on (r ∷ v ∷ []) = row_value r v ∷ []
 row_values_on (t ∷ r ∷ v ∷ []) = row_value r v ∷ []
 row_values_on (r ∷ v ∷ s ∷ w ∷ []) = row_value r v ∷ row_value s w ∷ []
 row_values_on (t ∷ r ∷ v ∷ s ∷ w ∷ []) = row_value r v ∷ row_value s w ∷ []
-row_values_on [] = []
-row_values_on (t ∷ []) = []
-row_values_on (t ∷ r ∷ v ∷ s ∷ w ∷ x ∷ fs) = []
+row_values_on fs = []
 
 abbrev pub row_values_in : List Line → List RowValue
 row_values_in ls = flat_map (λ l. row_values_on l.fields) ls

@@ -74,7 +74,4 @@ kind_of (b ∷ bs) = if b == 42 then Comment else if is_blank b then kind_indent
 abbrev pub is_passed : LineKind → Bool
 is_passed Blank = true
 is_passed Comment = true
-is_passed (Head s) = false
-is_passed LeftOut = false
-is_passed Unknown = false
-is_passed Entry = false
+is_passed kind = false

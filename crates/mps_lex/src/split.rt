@@ -1,5 +1,5 @@
 //! How a text falls into pieces, and a piece into fields.
-ghost use Rattle.std.specs.Prelude.{◌≡◌, ◌<◌, ◌≤◌, ◌+◌, ◌++◌, ◌∷◌, ◌==◌, not, IfOk, map, length};
+ghost use Rattle.std.specs.Prelude.{◌≡◌, ◌<◌, ◌≤◌, ◌+◌, ◌∷◌, ◌==◌, not, IfOk, map, length};
 ghost use Rattle.std.specs.List.{prefix_len};
 ghost use Rattle.mps_lex.specs.Lines.{pieces, without_end, content};
 ghost use Rattle.mps_lex.specs.Kinds.{is_blank, fields};

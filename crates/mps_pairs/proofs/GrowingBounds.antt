@@ -1,6 +1,6 @@
 -- What is known of bounds when a line of BOUNDS is read.
-use Rattle.std.proofs.Common.{ℕ, ◌≡◌, Bool, true, false, ◌&&◌, ◌||◌, cond, eqb, List, [], ◌∷◌, ◌++◌, map, Option, Some, None, refl, sym, ap, ◌∙◌, append_assoc}
-use Rattle.std.proofs.lemmas.Bool.{or_parts, true≢false, eq-eqb}
+use Rattle.std.proofs.Common.{◌≡◌, Bool, true, false, ◌||◌, cond, List, [], ◌∷◌, ◌++◌, map, Option, Some, None, refl, sym, ap, ◌∙◌, append_assoc}
+use Rattle.std.proofs.lemmas.Bool.{or_parts, true≢false}
 use Rattle.std.proofs.lemmas.List.{append-nil, map_push}
 use Rattle.std.proofs.lemmas.List.Concat.{flat_map-append}
 use Rattle.std.proofs.lemmas.List.Elements.{filter-append}
@@ -8,11 +8,8 @@ use Rattle.std.proofs.lemmas.List.Folds.{list_any-append}
 use Rattle.std.proofs.lemmas.List.Sums.{fold_push}
 use Rattle.std.specs.Prelude.{fold, unwrap_or}
 use Rattle.std.specs.Str.{bytes_eq}
-use Rattle.lp_nums.specs.Fractions.{Fraction}
 use Rattle.mps_lex.specs.Kinds.{Name}
 use Rattle.mps_lex.specs.Lines.{Line}
-use Rattle.decks.specs.declared.bounds.BoundKind.{BoundKind}
-use Rattle.decks.specs.declared.bounds.BoundKind.TheVariants.{Up, Lo, Fx, Fr, Mi, Pl}
 use Rattle.decks.specs.declared.deck.Column.{Column}
 use Rattle.decks.specs.Names.{has, add_name, named, put}
 use Rattle.decks.specs.Bounds.{Setting, setting_on, settings_in, bound_set, default_column, set_by, settings_of, column_bounds, bounded, below_zero_line, upper_below_zero}

@@ -1,5 +1,5 @@
 -- The first of two faults with their lines.
-use Rattle.std.proofs.Common.{◌≡◌, Option, Some, None, Result, Ok, Err, ap, ◌∙◌}
+use Rattle.std.proofs.Common.{◌≡◌, Option, None, Result, Ok, Err, ap, ◌∙◌}
 use Rattle.decks.specs.declared.fault.DeckFault.{DeckFault}
 use Rattle.decks.specs.declared.fault.DeckFault.TheVariants.{NoMemory, At}
 use Rattle.decks.specs.Faults.{◌or◌, Found}

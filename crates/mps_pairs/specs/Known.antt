@@ -25,25 +25,17 @@ abbrev pub section_state : List Line → SectionState
 section_state ls = record { current = open_behind ls; rhs = is_begun section.Rhs ls; ranges = is_begun section.Ranges ls; bounds = is_begun section.Bounds ls }
 
 abbrev pub begun_by : SectionState → Section → Bool
-begun_by c section.Name = false
-begun_by c section.Rows = false
-begun_by c section.Columns = false
 begun_by c section.Rhs = c.rhs
 begun_by c section.Ranges = c.ranges
 begun_by c section.Bounds = c.bounds
-begun_by c section.Pairs = false
-begun_by c section.Endata = false
+begun_by c t = false
 
 abbrev pub begin : SectionState → Section → SectionState
 begin c t = record { current = Some t; rhs = c.rhs || same_section section.Rhs t; ranges = c.ranges || same_section section.Ranges t; bounds = c.bounds || same_section section.Bounds t }
 
 abbrev pub next_section_state : SectionState → LineKind → SectionState
-next_section_state c Blank = c
-next_section_state c Comment = c
 next_section_state c (Head t) = begin c t
-next_section_state c LeftOut = c
-next_section_state c Unknown = c
-next_section_state c Entry = c
+next_section_state c kind = c
 
 abbrev pub section_order_fault : SectionState → Section → Option DeckWhy
 section_order_fault c t = fault_if (not (may_follow (open_rank c.current) (begun_by c t) t)) SectionOrder
@@ -95,23 +87,17 @@ deck_from k end_line = record {
 }
 
 abbrev pub with_data : Open → Known → ℕ → List Name → Known
-with_data None k number fs = k
-with_data (Some section.Name) k number fs = k
 with_data (Some section.Rows) k number fs = record k { rows = k.rows ++ row_line k.rows number fs ∷ [] }
 with_data (Some section.Columns) k number fs = record k { columns = with_column k.rows k.columns fs }
 with_data (Some section.Rhs) k number fs = record k { rights = with_row_values k.rights fs }
 with_data (Some section.Ranges) k number fs = record k { ranges = with_row_values k.ranges fs }
 with_data (Some section.Bounds) k number fs = record k { bounds = with_bound k.bounds number fs }
 with_data (Some section.Pairs) k number fs = record k { pairs = with_pair k.rows k.columns.names k.pairs fs }
-with_data (Some section.Endata) k number fs = k
+with_data s k number fs = k
 
 abbrev pub next_kind : Open → Known → ℕ → LineKind → List Name → Known
-next_kind s k number Blank fs = k
-next_kind s k number Comment fs = k
-next_kind s k number (Head t) fs = k
-next_kind s k number LeftOut fs = k
-next_kind s k number Unknown fs = k
 next_kind s k number Entry fs = with_data s k number fs
+next_kind s k number kind fs = k
 
 abbrev pub next_known : Open → Known → Line → Known
 next_known s k l = next_kind s k l.number l.kind l.fields
@@ -119,15 +105,13 @@ next_known s k l = next_kind s k l.number l.kind l.fields
 -- ---- the fault of a line, told from what stands open and the tables
 
 abbrev pub known_fault : Open → Known → List Name → Option DeckWhy
-known_fault None k fs = Some SectionOrder
-known_fault (Some section.Name) k fs = Some SectionOrder
 known_fault (Some section.Rows) k fs = row_fault k.rows fs
 known_fault (Some section.Columns) k fs = column_fault k.rows k.columns.names (rows_here k.columns (field 0 fs)) k.columns.count fs
 known_fault (Some section.Rhs) k fs = row_values_fault k.rows k.rights.set k.rights.values fs
 known_fault (Some section.Ranges) k fs = row_values_fault k.rows k.ranges.set k.ranges.values fs
 known_fault (Some section.Bounds) k fs = bound_fault k.columns.names k.bounds.set fs
 known_fault (Some section.Pairs) k fs = pair_fault k.rows k.columns.names (bounds_with k.bounds.columns) k.pairs.names fs
-known_fault (Some section.Endata) k fs = Some SectionOrder
+known_fault s k fs = Some SectionOrder
 
 abbrev pub known_end_fault : SectionState → Known → ℕ → Option Found
 known_end_fault c k number = end_fault c.current k.rows (below_zero_line (map (λ e. e.1) k.bounds.columns)) number

@@ -165,7 +165,8 @@ impl<'a> PairTable<'a> {
 
     /// Takes the pairs out.
     pub fn take_pairs(&mut self, alloc: Global) -> Sequence<PairLine>
-        ensures { result ≡ self.old.pairs }
+        ensures pairs { result ≡ self.old.pairs }
+        ensures rest { self.new ≡ record self.old { pairs = [] } }
     {
         replace(&mut self.pairs, Sequence::new(alloc))
     }

@@ -1,6 +1,6 @@
 //! Reading a deck.
-ghost use Rattle.std.specs.Prelude.{◌≡◌, ◌+◌, ◌-◌, ◌<◌, ◌≤◌, ◌^◌, OnOk, IfOk, IfErr, Ok, Err, Option, None, Some, true, ℕ, List, ◌⊎◌, [], ◌++◌, length, take};
-ghost use Rattle.mps_lex.specs.Lines.{ends_with, line_of, lines_of};
+ghost use Rattle.std.specs.Prelude.{◌≡◌, ◌+◌, ◌-◌, ◌<◌, ◌≤◌, ◌^◌, OnOk, IfOk, IfErr, Ok, Err, Option, None, Some, true, ℕ, [], length};
+ghost use Rattle.mps_lex.specs.Lines.{line_of};
 ghost use Rattle.mps_lex.specs.Shown.{seen_line};
 ghost use Rattle.decks.specs.declared.deck.Deck as spelled;
 ghost use Rattle.decks.specs.declared.fault.DeckWhy as why;

@@ -1,5 +1,5 @@
 //! Bounds of columns.
-ghost use Rattle.std.specs.Prelude.{◌≡◌, ◌∷◌, [], true, false, not, if◌then◌else◌, IfOk, IfErr, OnOk, None, Some, map, option_map};
+ghost use Rattle.std.specs.Prelude.{◌≡◌, [], true, false, not, if◌then◌else◌, IfOk, IfErr, OnOk, None, Some, map, option_map};
 ghost use Rattle.mps_lex.specs.Shown.{shown};
 ghost use Rattle.decks.specs.declared.fault.DeckWhy.TheVariants.{UnknownName};
 ghost use Rattle.decks.specs.Decks.{IsDeckNumber};

@@ -1,5 +1,5 @@
 //! The columns of a text and the entries of the matrix.
-ghost use Rattle.std.specs.Prelude.{◌≡◌, ◌≤◌, ◌+◌, ℕ, List, false, None, Some, ◌∷◌, [], ◌++◌, IfOk, IfErr, OnOk, length, map};
+ghost use Rattle.std.specs.Prelude.{◌≡◌, ◌≤◌, ◌+◌, None, Some, ◌∷◌, [], ◌++◌, IfOk, IfErr, OnOk, length, map};
 ghost use Rattle.mps_lex.specs.Shown.{shown};
 ghost use Rattle.decks.specs.Names.{has, place, add_name};
 ghost use Rattle.decks.specs.Faults.{◌or◌, marker_fault, split_fault, entry_fault, two_entries_fault, full_fault, column_words_fault, column_fault};
@@ -75,7 +75,8 @@ impl<'a> ColumnTable<'a> {
 
     /// Takes the entries out.
     pub fn take_entries(&mut self, alloc: Global) -> Sequence<Entry>
-        ensures { result ≡ self.old.entries }
+        ensures entries { result ≡ self.old.entries }
+        ensures rest { self.new ≡ record self.old { entries = [] } }
     {
         replace(&mut self.entries, Sequence::new(alloc))
     }

@@ -1,5 +1,5 @@
 //! The rows that lines of ROWS name, and what is judged of a row with a value.
-ghost use Rattle.std.specs.Prelude.{◌≡◌, ◌≤◌, ◌+◌, ℕ, List, None, Some, [], ◌∷◌, ◌++◌, IfOk, IfErr, OnOk, is_none, length, option_map, slice_get, map};
+ghost use Rattle.std.specs.Prelude.{◌≡◌, ◌≤◌, ◌+◌, List, None, Some, [], ◌∷◌, ◌++◌, IfOk, IfErr, OnOk, length, option_map, slice_get, map};
 ghost use Rattle.mps_lex.specs.Shown.{shown};
 ghost use Rattle.decks.specs.Numbers.{value_of};
 ghost use Rattle.decks.specs.Faults.{is_letter, many_rows_fault, row_fault, entry_fault};

@@ -14,4 +14,4 @@ returns c =
     let k : Known = record { rows = i.rows; columns = i.columns; rights = i.rights; ranges = i.ranges; bounds = i.bounds; pairs = i.pairs } in
     let place = c.objective_of.ensures.place ∙ ap (λ (x : List Row). position_or_len (λ r. is_n r.letter) x) c.as_slice.ensures in
     let columns = c.in_ok-columns.ensures ∙ ap (λ (x : List Name). map (bounds_with i.bounds.columns) x) c.names.ensures.names in
-    rw (← c.self.view_is) (deck_taken k c.args.end_line c.in_ok-rows.rows c.objective_of.result c.in_ok-columns.columns c.take_entries.result c.take_pairs.result c.in_ok-rows.ensures.rows place columns c.take_entries.ensures c.take_pairs.ensures)
+    rw (← c.self.view_is) (deck_taken k c.args.end_line c.in_ok-rows.rows c.objective_of.result c.in_ok-columns.columns c.take_entries.result c.take_pairs.result c.in_ok-rows.ensures.rows place columns c.take_entries.ensures.entries c.take_pairs.ensures.pairs)
