@@ -1,5 +1,5 @@
 -- What contracts see of a reach.
-use Rattle.std.specs.Prelude.{◌≡◌, ◌≢◌, ◌<◌, ◌≤◌, ◌+◌, ◌++◌, ◌⊎◌, false, ℕ, List, [], All, length, replicate, slice_index, slice_index_or}
+use Rattle.std.specs.Prelude.{◌≡◌, ◌≢◌, ◌<◌, ◌≤◌, ◌+◌, ◌++◌, ◌⊎◌, false, true, ℕ, List, [], All, length, replicate, slice_index, slice_index_or}
 use Rattle.cut_pool.specs.declared.rooms.TheConstants.{FIRST_ROOM}
 use Rattle.lpcc_case.specs.Instance.{Instance}
 use Rattle.cut_pool.specs.Pages.{PageView}
@@ -36,6 +36,10 @@ pub record SameButLane (before after : ReachView) (lane : ℕ) : Type 0 where
 -- each lane has the marks of `ready`
 abbrev pub AreMarked : List LaneView → List LaneView → Type 0
 AreMarked before after = (length after ≡ length before) × ((k : ℕ) (d : LaneView) → k < length before → slice_index_or after k d ≡ marked (slice_index_or before k d))
+
+-- the reach has answered false on every other worker's lane since its last `ready`
+abbrev pub HasCaughtUp : ReachView → Type 0
+HasCaughtUp r = (k : ℕ) → k < length r.lanes → k ≢ r.worker → (lane_at r k).dry ≡ true
 
 -- the reach took so many fresh pages of one lane, and nothing else has changed
 pub record TookPages (before after : ReachView) (lane from to : ℕ) : Type 0 where

@@ -14,6 +14,7 @@ mod reach;
 mod rooms;
 mod shelf;
 
+pub use cases::same_case;
 pub use keeps::CutKeeps;
 pub use reach::Reach;
 pub use shelf::Shelf;

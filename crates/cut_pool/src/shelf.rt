@@ -1,5 +1,6 @@
 //! The shelf: where pages are opened, and from where their passes are taken.
 ghost use Rattle.std.specs.Prelude.{◌≡◌, ◌<◌, ◌≤◌, ◌↔◌, ℕ, List, [], IsTrue, IfOk, OnOk, OnErr, length, slice_index_or};
+ghost use Rattle.std.specs.Arc.{arc_value};
 ghost use Rattle.cut_pool.specs.Reaches.{ReachView, TookAll, Turned, TurnedPage};
 ghost use Rattle.cut_pool.specs.Shelves.{ShelfView, Fits, HasAll, Readied, IsNewReach, SameButRow};
 
@@ -37,6 +38,13 @@ impl Model for Shelf {
 }
 
 impl Shelf {
+    /// The case, which the shelf shares with its pages and its reaches.
+    pub fn case(&self) -> &Arc<Case, Global>
+        ensures { arc_value result.now ≡ self.now.case }
+    {
+        &self.case
+    }
+
     /// Whether the worker is one of the shelf's, and the reach has its number, the shelf's case and as
     /// many pages of each lane as were handed to it. It takes no memory.
     pub fn fits(&self, worker: u32, reach: &Reach) -> bool

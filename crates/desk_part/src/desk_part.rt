@@ -134,14 +134,15 @@ impl DeskPart {
         self.flight.is_empty()
     }
 
-    /// Whether the worker has no ticket in flight.
-    pub fn is_free(&self, worker: u32) -> bool
-        ensures { result ≡ true → IsFree worker self.now.flight }
+    /// The tickets in flight.
+    pub fn flight(&self) -> &[Ticket]
+        ensures { result.now ≡ self.now.flight }
     {
-        self.flight.iter().all(|ticket| ticket.worker != worker)
+        self.flight.as_slice()
     }
 
-    fn has_verdict(&self) -> bool
+    /// Whether there is a verdict.
+    pub fn has_verdict(&self) -> bool
         ensures some { result ≡ true → self.now.verdict ≢ None }
         ensures none { result ≡ false → self.now.verdict ≡ None }
     {

@@ -1,7 +1,9 @@
 //! A case, its options and the desk part, with a record that leads to it.
-ghost use Rattle.std.specs.Prelude.{◌≡◌, ◌<◌, IfErr, IfOk, IsTrue, OnErr, OnOk, true};
+ghost use Rattle.std.specs.Prelude.{◌≡◌, ◌≢◌, ◌<◌, IfErr, IfOk, None, OnErr, OnOk, false, true};
+ghost use Rattle.std.specs.Arc.{arc_value};
 ghost use Rattle.play.specs.Lawful.{IsFree};
 ghost use Rattle.play.specs.Parts.{start};
+ghost use Rattle.play.specs.Truth.{AreApart, number_of};
 ghost use Rattle.desk_part.specs.DeskParts.{DrawsOn, EndingKeepsForm, IsBack, IsEndingOfRecord, IsOver, LearnsOn, MayBeSettled, SettlesOn, standing};
 
 use crate::{DeskPart, Draw};
@@ -9,37 +11,77 @@ use lpcc_case::Case;
 use play::{Ending, Options, Outcome, Ticket};
 use std::alloc::{AllocError, Global};
 use std::marker::Model;
+use std::sync::Arc;
 
 /// A desk part with its case and its options. Contracts see the three. The type keeps that some
 /// record leads to the part.
 #[derive(Drop)]
 pub struct RecordedPart {
-    case: Case,
+    case: Arc<Case, Global>,
     options: Options,
     part: DeskPart,
 }
 
 impl Model for RecordedPart {
     ghost use Rattle.std.specs.Prelude.{◌≡◌};
+    ghost use Rattle.std.specs.Arc.{arc_value};
     ghost use Rattle.desk_part.specs.DeskParts.{Standing, IsCarried, IsSettled, standing};
 
     ghost Value = { Standing };
 
-    ghost view = { λ d. standing d.case d.options d.part };
+    ghost view = { λ d. standing (arc_value d.case) d.options d.part };
 
-    ghost invariant = { λ d. IsCarried d.case d.options d.part × IsSettled d.part };
+    ghost invariant = { λ d. IsCarried (arc_value d.case) d.options d.part × IsSettled d.part };
 }
 
 impl RecordedPart {
-    /// The part to which nothing has happened.
+    /// The part to which nothing has happened, over a case that is shared. It takes no memory.
+    pub fn over(alloc: Global, case: Arc<Case, Global>, options: &Options) -> RecordedPart
+        ensures { result ≡ standing (arc_value case) options.now start }
+    {
+        RecordedPart {
+            case,
+            options: *options,
+            part: DeskPart::create(alloc),
+        }
+    }
+
+    /// The part to which nothing has happened, over a copy of the case.
     pub fn create(alloc: Global, case: &Case, options: &Options) -> Result<RecordedPart, AllocError>
         ensures { IfOk result (λ d. d ≡ standing case.now options.now start) }
     {
-        Ok(RecordedPart {
-            case: case.copy(alloc)?,
-            options: *options,
-            part: DeskPart::create(alloc),
-        })
+        let case = Arc::new(alloc, case.copy(alloc)?)?;
+        Ok(RecordedPart::over(alloc, case, options))
+    }
+
+    /// The case.
+    pub fn case(&self) -> &Case
+        ensures { result.now ≡ self.now.case_of }
+    {
+        &self.case
+    }
+
+    /// The options.
+    pub fn options(&self) -> &Options
+        ensures { result.now ≡ self.now.options }
+    {
+        &self.options
+    }
+
+    /// The tickets in flight. No number stands twice.
+    pub fn flight(&self) -> &[Ticket]
+        ensures flight { result.now ≡ self.now.part.flight }
+        ensures apart { AreApart number_of self.now.part.flight }
+    {
+        self.part.flight()
+    }
+
+    /// Whether there is a verdict.
+    pub fn is_concluded(&self) -> bool
+        ensures some { result ≡ true → self.now.part.verdict ≢ None }
+        ensures none { result ≡ false → self.now.part.verdict ≡ None }
+    {
+        self.part.has_verdict()
     }
 
     /// Gives the worker the first piece that no absorbed cut bars and that is neither in flight
@@ -81,12 +123,5 @@ impl RecordedPart {
             part,
         } = self;
         part.close(alloc, &case, &options)
-    }
-
-    /// Whether the worker is one of the run's and has no ticket in flight.
-    pub fn may_draw(&self, worker: u32) -> bool
-        ensures { result ≡ true → (worker < self.now.options.workers) × IsFree worker self.now.part.flight }
-    {
-        worker < self.options.workers.number() && self.part.is_free(worker)
     }
 }

@@ -1,9 +1,18 @@
-use Rattle.desk_part.specs.DeskParts.{standing}
+use Rattle.std.proofs.Common.{subst, sym}
+use Rattle.std.specs.Arc.{arc_value}
+use Rattle.std.specs.Prelude.{IfOk}
+use Rattle.lpcc_case.specs.Instance.{Instance}
+use Rattle.play.specs.Endings.{IsEnding}
+use Rattle.desk_part.specs.DeskParts.{IsOver, standing}
 use Rattle.desk_part.proofs.DrawLaws.{closed_on, over_on}
 use Rattle.desk_part.proofs.recorded.RecordedPart.close.Goals as goal
 
 pub close-requires-clause-over : goal.close-requires-clause-over
-close-requires-clause-over c = over_on (standing c.self.inside.case c.self.inside.options c.self.inside.part) c.args.self c.self.view_is c.requires.over
+close-requires-clause-over c =
+    let P : Instance → Type 0 = λ a. IsOver a c.self.inside.options c.self.inside.part in
+    subst P (sym c.deref.ensures) (over_on (standing (arc_value c.self.inside.case) c.self.inside.options c.self.inside.part) c.args.self c.self.view_is c.requires.over)
 
 pub returns-clause-ending : goal.returns-clause-ending
-returns-clause-ending c = closed_on (standing c.self.inside.case c.self.inside.options c.self.inside.part) c.args.self c.close.result c.self.view_is c.self.invariant c.close.ensures.ending
+returns-clause-ending c =
+    let P : Instance → Type 0 = λ a. IfOk c.close.result (IsEnding a c.self.inside.options c.self.inside.part) in
+    closed_on (standing (arc_value c.self.inside.case) c.self.inside.options c.self.inside.part) c.args.self c.close.result c.self.view_is c.self.invariant (subst P c.deref.ensures c.close.ensures.ending)
