@@ -6,3 +6,4 @@ mod Places
 mod Filters
 mod Removing
 mod Reasoning
+mod Within

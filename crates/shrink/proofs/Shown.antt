@@ -13,7 +13,7 @@ use Rattle.walks.specs.Duals.{blamed}
 use Rattle.walks.specs.Ends.{IsPointAt}
 use Rattle.lex_simplex.specs.Answers.{IsPointCutOf, IsRayCutOf}
 use Rattle.reasons.specs.Reasons.{IsActiveAgainst, IsUnder}
-use Rattle.shrink.specs.Trials.{IsCutWithin}
+use Rattle.probe.specs.Answers.{IsCutWithin}
 use Rattle.shrink.proofs.Blamed.{blamed_fewer, blamed_within}
 
 pub ray_within : (a : Instance) (limit : Option Point) (tight : List Choice) (cut : Cut) → IsRayCutOf a tight cut → IsCutWithin a limit tight cut

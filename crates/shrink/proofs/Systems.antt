@@ -1,17 +1,16 @@
 -- Points of systems: those of a solve, and those of fewer choices.
-use Rattle.std.proofs.Common.{◌≡◌, pos, Bool, true, false, List, get_or, sym, ◌∙◌}
-use Rattle.std.specs.Prelude.{All, Contains, IsTrue, ◌↔◌}
+use Rattle.std.proofs.Common.{◌≡◌, pos, List, get_or, sym, ◌∙◌}
+use Rattle.std.specs.Prelude.{All, Contains}
 use Rattle.std.proofs.lemmas.List.Elements.{All-contains}
 use Rattle.nogoods.specs.declared.choice.Choice.{Choice}
 use Rattle.lpcc_case.specs.Instance.{Instance, chosen}
 use Rattle.lpcc_case.specs.Points as points
 use Rattle.lpcc_case.specs.Points.{IsTight, IsTightAt, Meets, MeetsAll, Recedes, left_side}
-use Rattle.lpcc_case.specs.NarrowPoints.{IsPointOf, Means}
+use Rattle.lpcc_case.specs.NarrowPoints.{Means}
 use Rattle.lpcc_case.specs.declared.point.Point.{Point}
 use Rattle.lpcc_case.specs.declared.point.Ray.{Ray}
-use Rattle.lpcc_case.proofs.Meanings.{means_one}
 use Rattle.walks.specs.Ends.{IsPointAt, IsRayAt}
-use Rattle.reasons.specs.Reasons.{Has, IsIn, IsPointIn, IsRayFor}
+use Rattle.reasons.specs.Reasons.{IsIn, IsPointIn, IsRayFor}
 
 -- what the same numbers mean is in the same systems
 same_numerators : (a : Instance) (q : Point) (p r : points.Point a.columns) → Means q p → Means q r → r.x ≡ p.x
@@ -34,18 +33,6 @@ point_in a tight q at = record {
 
 pub ray_for : (a : Instance) (tight : List Choice) (ray : Ray) → IsRayAt a tight ray → IsRayFor a tight ray
 ray_for a tight ray at = record { numbers = at.numbers; recedes = at.recedes }
-
--- ---- a test of tightness behind one of the constraints
-
-pub in_where : (a : Instance) (tight : List Choice) (q : Point) (t u : Bool) → IsPointOf a q → t ≡ true → ((p : points.Point a.columns) → Means q p → IsTrue t ↔ MeetsAll a p) → ((p : points.Point a.columns) → Means q p → IsTrue u ↔ IsTightAt a p tight) → IsTrue u ↔ Has a q (IsIn a tight)
-in_where a tight q t u of passed met tells = (
-  λ there p means. record { met = (met p means).0 passed; tight_there = (tells p means).0 there },
-  λ inside. let m = means_one a q of.fits in (tells m.0 m.1).1 (inside m.0 m.1).tight_there,
-)
-
-pub not_in_where : (a : Instance) (tight : List Choice) (q : Point) (t : Bool) → IsPointOf a q → t ≡ false → ((p : points.Point a.columns) → Means q p → IsTrue t ↔ MeetsAll a p) → IsTrue t ↔ Has a q (IsIn a tight)
-not_in_where a tight q t of failed met =
-    (λ passed. let clash : ⊥ = cc in absurd clash, λ inside. let m = means_one a q of.fits in (met m.0 m.1).1 (inside m.0 m.1).met)
 
 -- ---- fewer choices
 

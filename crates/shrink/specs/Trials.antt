@@ -1,5 +1,5 @@
 -- Trials to drop a choice, and the reasons found so far.
-use Rattle.std.specs.Prelude.{◌≡◌, ◌<◌, ◌≤◌, ℕ, List, Option, Some, All, Contains, IsSome, length, map, slice_get}
+use Rattle.std.specs.Prelude.{◌≡◌, ◌<◌, ℕ, List, Option, Some, IsSome, length, map, slice_get}
 use Rattle.std.specs.List.{AllWithin, remove}
 use Rattle.nogoods.specs.declared.choice.Choice.{Choice}
 use Rattle.lpcc_case.specs.Instance.{Instance}
@@ -7,21 +7,10 @@ use Rattle.lpcc_case.specs.declared.point.Point.{Point}
 use Rattle.cuts.specs.declared.cut.Cut.{Cut}
 use Rattle.cuts.specs.declared.reason.Reason.{Reason}
 use Rattle.cuts.specs.declared.reason.Reason.TheVariants as reason
-use Rattle.cuts.specs.Cuts.{Passes, no_good_of}
-use Rattle.reasons.specs.Reasons.{IsActiveAgainst, IsPointIn, IsTrueReason, IsUnder, choice_kept}
+use Rattle.reasons.specs.Reasons.{IsTrueReason, choice_kept}
+use Rattle.probe.specs.Answers.{IsCutWithin}
 use Rattle.shrink.specs.declared.trial.Trial.{Trial}
 use Rattle.shrink.specs.declared.trial.Trial.TheVariants.{Dropped, Kept}
-
--- a point of the system of these choices, lower than the limit where there is one
-abbrev pub IsPointBelow : Instance → Option Point → List Choice → Point → Type 0
-IsPointBelow a limit tight q = IsPointIn a tight q × IsUnder q limit
-
--- a cut that passes and is active, with choices among these
-pub record IsCutWithin (a : Instance) (limit : Option Point) (tight : List Choice) (cut : Cut) : Type 0 where
-  pub passes : Passes a cut
-  pub active : IsActiveAgainst cut limit
-  pub choices : All (Contains tight) (no_good_of cut)
-  pub fewer : length (no_good_of cut) ≤ length tight
 
 -- what the program of these choices shows: a cut, or a reason for the choice that is not among them
 abbrev pub IsTrial : Instance → ℕ → Option Point → List Choice → Trial → Type 0

@@ -4,12 +4,12 @@ ghost use Rattle.std.specs.Option.{option_copied};
 ghost use Rattle.lpcc_case.specs.Pieces.{NamesPairs};
 ghost use Rattle.reasons.specs.Reasons.{IsLimit};
 ghost use Rattle.shrink.specs.Known.{is_lower, newest};
-ghost use Rattle.shrink.specs.Trials.{IsPointBelow};
+ghost use Rattle.probe.specs.Answers.{IsPointBelow};
 
-use crate::below::{copy_point, is_point_below};
 use crate::sides::{have_common, loose_sides, sides_of};
 use lpcc_case::{Case, Point, lower};
 use nogoods::NoGood;
+use probe::is_point_below;
 use std::alloc::{AllocError, Global};
 use std::marker::Model;
 
@@ -68,7 +68,7 @@ impl KnownPoints {
         ensures err { OnErr result (self.new ≡ self.old) }
     {
         let alloc = *self.held.allocator();
-        let copy = copy_point(alloc, point)?;
+        let copy = point.copy(alloc)?;
         let loose = loose_sides(alloc, case, point)?;
         self.held.push(KnownPoint { point: copy, loose })?;
         if self.held.len() > MOST_KNOWN {
@@ -82,6 +82,17 @@ impl KnownPoints {
         ensures { self.new ≡ filter (is_lower limit.now) self.old }
     {
         self.held.retain(|known| is_lower(&known.point, limit));
+    }
+
+    /// Whether a known point is tight at each of the choices, or seems so. Nothing is claimed of it.
+    pub(crate) fn may_lie_in(&self, case: &Case, tight: &NoGood) -> Result<bool, AllocError> {
+        let wanted = sides_of(*self.held.allocator(), case, tight)?;
+        Ok(
+            self.held.iter().rev().any(|known| !have_common(
+                known.loose.as_slice(),
+                wanted.as_slice(),
+            )),
+        )
     }
 
     /// A copy of the newest known point that meets all constraints, is tight at each of the choices
@@ -102,7 +113,7 @@ impl KnownPoints {
             if !have_common(known.loose.as_slice(), wanted.as_slice())
                 && is_point_below(case, tight, limit, &known.point)
             {
-                return Ok(Some(copy_point(alloc, &known.point)?));
+                return Ok(Some(known.point.copy(alloc)?));
             }
         }
         Ok(None)

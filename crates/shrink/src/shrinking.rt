@@ -6,15 +6,17 @@ ghost use Rattle.reasons.specs.Reasons.{IsActiveAgainst, IsLimit};
 ghost use Rattle.shrink.specs.Shrinking.{IsShrunk};
 
 use crate::found::{carried, kept_of, no_reasons};
+use crate::probing::shrink_by_probe;
 use crate::trying::try_all;
 use crate::{KnownPoints, Shrunk};
 use cuts::Cut;
 use lpcc_case::{Case, Point};
 use nogoods::NoGood;
+use probe::Probe;
 use std::alloc::{AllocError, Global};
 
 /// The no-good of a cut.
-fn no_good(cut: &Cut) -> &NoGood
+pub fn no_good(cut: &Cut) -> &NoGood
     ensures { result.now ≡ no_good_of cut.now }
 {
     match cut {
@@ -81,4 +83,31 @@ pub fn shrink_with(
         found = carried(alloc, ng, found, no_good(&smaller))?;
         cut = smaller;
     }
+}
+
+/// Shrinks as `shrink_with` does, and asks the probe for each choice for which no point is known,
+/// before a program is solved for it. The cut that is left may be another one.
+///
+/// # Errors
+///
+/// Want of memory alone.
+pub fn shrink_with_probe(
+    alloc: Global,
+    case: &Case,
+    cut: Cut,
+    limit: Option<&Point>,
+    pivots: u64,
+    known: &mut KnownPoints,
+    probe: &mut Probe,
+) -> Result<Shrunk, AllocError>
+    requires passes { Passes case.now cut }
+    requires limit { IsLimit case.now (option_copied limit) }
+    requires active { IsActiveAgainst cut (option_copied limit) }
+    ensures { IfOk result (IsShrunk case.now pivots (option_copied limit.entry) cut) }
+{
+    if let Some(limit) = limit {
+        known.keep_lower(limit);
+    }
+    let smaller = shrink_by_probe(alloc, case, cut, limit, known, probe)?;
+    shrink_with(alloc, case, smaller, limit, pivots, known)
 }

@@ -7,11 +7,11 @@ ghost use Rattle.walks.specs.Ends.{IsPointAt};
 ghost use Rattle.reasons.specs.Reasons.{IsLimit};
 ghost use Rattle.shrink.specs.Trials.{IsTrial};
 
-use crate::below::is_under;
 use cuts::{Cut, Reason};
 use lex_simplex::LpAnswer;
 use lpcc_case::{Case, Point};
 use nogoods::NoGood;
+use probe::is_under;
 
 /// What the program of some choices shows.
 #[derive(Drop)]

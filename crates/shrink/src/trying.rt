@@ -5,19 +5,20 @@ ghost use Rattle.std.specs.Option.{option_copied};
 ghost use Rattle.lpcc_case.specs.Pieces.{NamesPairs};
 ghost use Rattle.lex_simplex.specs.Answers.{IsAnswer};
 ghost use Rattle.reasons.specs.Reasons.{IsLimit};
-ghost use Rattle.shrink.specs.Trials.{AreFound, HaveReasons, IsCutWithin, IsSmaller, IsTrial};
+ghost use Rattle.probe.specs.Answers.{IsCutWithin};
+ghost use Rattle.shrink.specs.Trials.{AreFound, HaveReasons, IsSmaller, IsTrial};
 
-use crate::below::is_under;
 use crate::known::KnownPoints;
 use crate::trial::{Trial, of_answer};
 use cuts::{Cut, Reason};
 use lex_simplex::{LpAnswer, solve};
 use lpcc_case::{Case, Point};
 use nogoods::NoGood;
+use probe::is_under;
 use std::alloc::{AllocError, Global};
 
 /// The choices without the one at a place.
-fn without(alloc: Global, ng: &NoGood, k: usize) -> Result<NoGood, AllocError>
+pub fn without(alloc: Global, ng: &NoGood, k: usize) -> Result<NoGood, AllocError>
     requires { k < length ng.now }
     ensures { IfOk result (λ rest. rest ≡ remove ng.now k) }
 {
