@@ -5,7 +5,7 @@ use crate::dictionary::Simplex;
 use lp_base::product;
 use lpcc_case::{Case, Constraint, Kind};
 use simplex_numbers::Number;
-use simplex_rows::{Bound, Row, Scale, Variable, common_multiple};
+use simplex_rows::{Bound, Pattern, Row, Scale, Variable, common_multiple};
 use std::alloc::{AllocError, Global};
 
 fn repeated<T: Copy + Drop>(alloc: Global, value: T, times: usize) -> Result<Vec<T>, AllocError> {
@@ -96,11 +96,9 @@ fn slack_of(constraint: &Constraint, k: usize) -> Variable {
     }
 }
 
-fn count<N: Number>(counts: &mut [i64], entries: &[N]) {
+fn enter_pattern<N: Number>(pattern: &mut Pattern, row: usize, entries: &[N]) {
     for (k, x) in entries.iter().enumerate() {
-        if k < counts.len() && !x.is_zero() {
-            counts[k] = counts[k].wrapping_add(1);
-        }
+        pattern.change(row, k, N::of(0), *x);
     }
 }
 
@@ -117,8 +115,12 @@ fn cost_terms(alloc: Global, cost: &[i64]) -> Result<Vec<(u32, i64)>, AllocError
 }
 
 impl<N: Number> Simplex<N> {
-    /// A dictionary of columns without rows.
-    fn of_columns(alloc: Global, bounds: &[ColumnBounds]) -> Result<Simplex<N>, AllocError> {
+    /// A dictionary of columns without rows, with room for as many rows.
+    fn of_columns(
+        alloc: Global,
+        bounds: &[ColumnBounds],
+        rows: usize,
+    ) -> Result<Simplex<N>, AllocError> {
         let columns = bounds.len();
         let mut variables = Vec::with_capacity(alloc, columns)?;
         let mut nonbasic = Vec::with_capacity(alloc, columns)?;
@@ -134,7 +136,9 @@ impl<N: Number> Simplex<N> {
             rows: Vec::new(alloc),
             variables,
             nonbasic,
-            counts: repeated(alloc, 0, columns)?,
+            pattern: Pattern::zero(alloc, rows, columns)?,
+            touched: Vec::with_capacity(alloc, rows)?,
+            violations: Vec::with_capacity(alloc, rows)?,
             terms: Vec::with_capacity(alloc, columns)?,
             products,
             scales,
@@ -153,9 +157,10 @@ impl<N: Number> Simplex<N> {
             self.overflowed = true;
             return Ok(());
         };
-        count(self.counts.as_mut_slice(), row.entries.as_slice());
         let place = self.rows.len();
+        enter_pattern(&mut self.pattern, place, row.entries.as_slice());
         self.rows.push(row)?;
+        self.violations.push(0)?;
         self.variables.push(Variable {
             basic: true,
             place,
@@ -212,7 +217,7 @@ impl<N: Number> Simplex<N> {
     pub fn of_case(alloc: Global, case: &Case) -> Result<Simplex<N>, AllocError> {
         let columns = Columns::of_case(alloc, case)?;
         let bounds = columns.bounds.as_slice();
-        let mut made = Simplex::of_columns(alloc, bounds)?;
+        let mut made = Simplex::of_columns(alloc, bounds, columns.rows())?;
         made.add_constraints(alloc, case, &columns)?;
         made.cost = made.variables.len();
         let terms = cost_terms(alloc, case.cost())?;

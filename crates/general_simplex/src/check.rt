@@ -1,9 +1,8 @@
 //! Whether the held constraints and the limit can be met: the walk of Dutertre and de Moura.
 
 use crate::dictionary::Simplex;
-use crate::entering::entering_column;
-use crate::leaving::{PivotRule, leaving_row};
 use simplex_numbers::Number;
+use simplex_rows::{Leaving, PivotRule, entering_column, leaving_row, measure, measure_all};
 use std::alloc::AllocError;
 
 /// After as many pivots for each row and column Bland's rule is taken, by which the walk ends.
@@ -53,37 +52,72 @@ impl<N: Number> Simplex<N> {
     }
 
     /// Counts each variable that is not basic from the bound at which it is held.
-    fn reflect_held(&mut self) -> bool {
+    fn reflect_held(&mut self) -> Result<bool, AllocError> {
         for col in 0..self.nonbasic.len() {
-            if self.stands_off(col) && !self.reflect_column(col) {
-                return false;
+            if self.stands_off(col) && !self.reflect_column(col)? {
+                return Ok(false);
             }
         }
-        true
+        Ok(true)
+    }
+
+    /// The entries of the cost's row, and none where that is this row, or the cost is not basic.
+    fn costs_beside(&self, row: usize) -> &[N] {
+        match self.cost_row() {
+            Some(cost) if cost != row && cost < self.rows.len() => {
+                self.rows[cost].entries.as_slice()
+            },
+            _ => &[],
+        }
     }
 
     fn entering(&self, row: usize, rule: PivotRule, rise: bool) -> Option<usize> {
+        let costs = self.costs_beside(row);
         let row = self.rows.get(row)?;
         entering_column(
             row.entries.as_slice(),
+            costs,
             self.nonbasic.as_slice(),
             self.variables.as_slice(),
-            self.counts.as_slice(),
+            &self.pattern,
             rule,
             rise,
         )
     }
 
-    /// One pivot, or the end of the walk.
-    fn step(&mut self, bland: bool) -> Result<Option<Feasibility>, AllocError> {
-        let rule = PivotRule {
+    fn rule(&self, bland: bool) -> PivotRule {
+        PivotRule {
             cost: self.cost,
             limited: self.limit.is_some(),
             cost_column: self.cost_column(),
             bland,
-        };
-        let Some(leaving) = leaving_row(self.rows.as_slice(), self.variables.as_slice(), rule)
-        else {
+        }
+    }
+
+    /// Measures the violations of the rows that the last pivot touched, or of all rows.
+    fn measure(&mut self, rule: PivotRule, all: bool) {
+        let violations = self.violations.as_mut_slice();
+        let rows = self.rows.as_slice();
+        let variables = self.variables.as_slice();
+        if all {
+            measure_all(violations, rows, variables, rule);
+        } else {
+            measure(violations, rows, self.touched.as_slice(), variables, rule);
+        }
+    }
+
+    fn leaving(&self, rule: PivotRule) -> Option<Leaving> {
+        leaving_row(
+            self.violations.as_slice(),
+            self.rows.as_slice(),
+            self.variables.as_slice(),
+            rule,
+        )
+    }
+
+    /// One pivot, or the end of the walk.
+    fn step(&mut self, rule: PivotRule) -> Result<Option<Feasibility>, AllocError> {
+        let Some(leaving) = self.leaving(rule) else {
             return Ok(Some(Feasibility::Feasible));
         };
         if leaving.repair.reflect && !self.reflect_row(leaving.row) {
@@ -122,12 +156,16 @@ impl<N: Number> Simplex<N> {
         if let Some(variable) = self.bounds_conflict() {
             return Ok(Feasibility::BoundsConflict { variable });
         }
-        if !self.reflect_held() {
+        if !self.reflect_held()? {
             return Ok(Feasibility::Unknown);
         }
         let before_bland = self.pivots_before_bland();
+        let mut measured = None;
         for made in 0..self.most_pivots() {
-            if let Some(end) = self.step(made > before_bland)? {
+            let rule = self.rule(made > before_bland);
+            self.measure(rule, measured != Some(rule.cost_column));
+            measured = Some(rule.cost_column);
+            if let Some(end) = self.step(rule)? {
                 return Ok(end);
             }
         }

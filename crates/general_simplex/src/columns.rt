@@ -65,8 +65,8 @@ fn add_lower(bounds: &mut [ColumnBounds], number: u32, single: Single) -> bool {
     false
 }
 
-/// An upper bound stands beside a lower one of the same factor, or where there is none. The result
-/// is whether it stands beside one; None where it is neither.
+/// An upper bound stands beside a lower one of the same factor that is not above it, or where there
+/// is none. The result is whether it stands beside one; None where it is neither.
 fn add_upper(bounds: &mut [ColumnBounds], number: u32, single: Single) -> Option<bool> {
     let j = single.column;
     if single.factor > 0 || j >= bounds.len() {
@@ -81,6 +81,9 @@ fn add_upper(bounds: &mut [ColumnBounds], number: u32, single: Single) -> Option
         return None;
     }
     let range = single.rhs.wrapping_neg().wrapping_sub(own.scale.shift);
+    if range < 0 {
+        return None;
+    }
     bounds[j] = ColumnBounds {
         upper: Some(number),
         range: Some(range),
@@ -144,6 +147,13 @@ fn find_upper(case: &Case, bounds: &mut [ColumnBounds], bound_of: &mut [Option<B
 }
 
 impl Columns {
+    /// How many rows a dictionary has: one for each constraint that is no bound of a column, and one
+    /// for the cost.
+    pub fn rows(&self) -> usize {
+        let bounds = self.bound_of.iter().filter(|bound| bound.is_none());
+        bounds.count().saturating_add(1)
+    }
+
     /// Those of a case. A column has one lower and one upper bound at most; every other constraint
     /// has a row.
     pub fn of_case(alloc: Global, case: &Case) -> Result<Columns, AllocError> {

@@ -1,7 +1,7 @@
 //! The standing dictionary with its marks.
 
 use simplex_numbers::Number;
-use simplex_rows::{Bound, Limit, Row, Scale, Variable, variable_at};
+use simplex_rows::{Bound, Limit, Pattern, Row, Scale, Variable, variable_at};
 use std::alloc::AllocError;
 
 /// A standing dictionary of a case in numbers of one width, with the constraints that are held with equality and the limit
@@ -13,8 +13,11 @@ pub struct Simplex<N: Number> {
     pub(crate) variables: Vec<Variable>,
     /// The variable of each column.
     pub(crate) nonbasic: Vec<usize>,
-    /// In how many rows each column is not zero.
-    pub(crate) counts: Vec<i64>,
+    pub(crate) pattern: Pattern,
+    /// Room for the rows in which a column is not zero.
+    pub(crate) touched: Vec<usize>,
+    /// How far the variable of each row violates a bound, and 0 where it does not.
+    pub(crate) violations: Vec<u64>,
     /// Room for the terms of the row that leaves.
     pub(crate) terms: Vec<(usize, N)>,
     /// Room for the products of one row.

@@ -2,7 +2,7 @@
 
 use crate::dictionary::Simplex;
 use simplex_numbers::Number;
-use simplex_rows::{PivotRow, Row, Variable};
+use simplex_rows::{Pattern, PivotRow, Row, Variable};
 use std::alloc::AllocError;
 
 /// The terms of the row that leaves, but for that of the column.
@@ -20,16 +20,22 @@ fn collect_terms<N: Number>(
     Ok(())
 }
 
+/// Eliminates from the rows in which the column is not zero.
 fn eliminate_others<N: Number>(
     rows: &mut [Row<N>],
+    touched: &[usize],
     leaving: usize,
     pivot: PivotRow<N>,
     terms: &[(usize, N)],
-    counts: &mut [i64],
+    pattern: &mut Pattern,
     products: &mut [N::Product],
 ) -> bool {
-    for (i, row) in rows.iter_mut().enumerate() {
-        if i != leaving && !row.eliminate(pivot, terms, counts, products) {
+    for number in touched {
+        let i = *number;
+        if i != leaving
+            && i < rows.len()
+            && !rows[i].eliminate(pivot, terms, pattern, i, products)
+        {
             return false;
         }
     }
@@ -53,9 +59,15 @@ fn flip(variables: &mut [Variable], number: usize) {
     }
 }
 
-fn reflect_columns<N: Number>(rows: &mut [Row<N>], col: usize, range: i64) -> bool {
-    for row in rows.iter_mut() {
-        if row.reflect_column(col, range).is_none() {
+fn reflect_columns<N: Number>(
+    rows: &mut [Row<N>],
+    touched: &[usize],
+    col: usize,
+    range: i64,
+) -> bool {
+    for number in touched {
+        let i = *number;
+        if i < rows.len() && rows[i].reflect_column(col, range).is_none() {
             return false;
         }
     }
@@ -86,12 +98,14 @@ impl<N: Number> Simplex<N> {
             return Ok(self.overflow());
         }
         collect_terms(&mut self.terms, leaving.entries.as_slice(), col)?;
+        self.pattern.list(col, &mut self.touched)?;
         let fits = eliminate_others(
             self.rows.as_mut_slice(),
+            self.touched.as_slice(),
             row,
             pivot,
             self.terms.as_slice(),
-            self.counts.as_mut_slice(),
+            &mut self.pattern,
             self.products.as_mut_slice(),
         );
         if !fits {
@@ -123,18 +137,20 @@ impl<N: Number> Simplex<N> {
     }
 
     /// Counts the variable of a column from its other bound. False where a number does not fit.
-    pub(crate) fn reflect_column(&mut self, col: usize) -> bool {
+    pub(crate) fn reflect_column(&mut self, col: usize) -> Result<bool, AllocError> {
         if col >= self.nonbasic.len() {
-            return false;
+            return Ok(false);
         }
         let number = self.nonbasic[col];
         let Some(range) = self.variable(number).range else {
-            return false;
+            return Ok(false);
         };
-        if !reflect_columns(self.rows.as_mut_slice(), col, range) {
-            return self.overflow();
+        self.pattern.list(col, &mut self.touched)?;
+        let rows = self.rows.as_mut_slice();
+        if !reflect_columns(rows, self.touched.as_slice(), col, range) {
+            return Ok(self.overflow());
         }
         flip(self.variables.as_mut_slice(), number);
-        true
+        Ok(true)
     }
 }

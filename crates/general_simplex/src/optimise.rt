@@ -2,7 +2,7 @@
 
 use crate::dictionary::Simplex;
 use simplex_numbers::Number;
-use simplex_rows::{Row, Variable, variable_at};
+use simplex_rows::{Blocking, Variable, ratio_test, variable_at};
 use std::alloc::AllocError;
 
 /// What became of the cost.
@@ -14,91 +14,6 @@ pub enum Optimum {
     Unbounded { col: usize, rise: bool },
     /// A number did not fit, or the pivots are spent.
     Unknown,
-}
-
-/// A row whose variable comes to a bound where that of a column moves by `constant / size`.
-#[derive(Clone, Copy)]
-struct Blocking<N: Number> {
-    row: usize,
-    variable: usize,
-    /// Whether it is the other bound than that which the variable is counted from.
-    reflect: bool,
-    constant: N,
-    size: N,
-}
-
-/// How far the variable of a row stands below its other bound, times the denominator, or the
-/// largest number.
-#[inline(always)]
-fn below_range<N: Number>(row: &Row<N>, range: i64) -> N {
-    let top = N::of(range).product(row.den);
-    N::of_product(N::difference(top, row.constant.product(N::of(1)))).unwrap_or(N::largest())
-}
-
-#[inline(always)]
-fn blocking_of<N: Number>(
-    i: usize,
-    row: &Row<N>,
-    variable: Variable,
-    col: usize,
-    rise: bool,
-) -> Option<Blocking<N>> {
-    let entry = row.entry(col);
-    if entry.is_zero() || variable.is_free() {
-        return None;
-    }
-    let falls = entry.is_negative() == rise;
-    let (reflect, constant) = if variable.is_held_here() {
-        (false, N::of(0))
-    } else if variable.is_held_there() {
-        (true, N::of(0))
-    } else if falls {
-        (false, row.constant)
-    } else {
-        (true, below_range(row, variable.range?))
-    };
-    Some(Blocking {
-        row: i,
-        variable: row.variable,
-        reflect,
-        constant,
-        size: entry.size(),
-    })
-}
-
-#[inline(always)]
-fn is_sooner<N: Number>(a: &Blocking<N>, b: &Blocking<N>) -> bool {
-    let later = N::difference(a.constant.product(b.size), b.constant.product(a.size));
-    N::is_negative_product(later) || (N::is_zero_product(later) && a.variable < b.variable)
-}
-
-/// The ratio test: of the rows whose variable comes to a bound where that of the column rises, or
-/// else falls, the first.
-fn ratio_test<N: Number>(
-    rows: &[Row<N>],
-    variables: &[Variable],
-    cost: usize,
-    col: usize,
-    rise: bool,
-) -> Option<Blocking<N>> {
-    let mut best: Option<Blocking<N>> = None;
-    for (i, row) in rows.iter().enumerate() {
-        if row.variable == cost {
-            continue;
-        }
-        let variable = variable_at(variables, row.variable);
-        let Some(blocking) = blocking_of(i, row, variable, col, rise) else {
-            continue;
-        };
-        let better = match &best {
-            None => true,
-            Some(first) => is_sooner(&blocking, first),
-        };
-        if better {
-            best = Some(blocking);
-        }
-    }
-    best
 }
 
 /// A column by which the cost falls, and whether its variable rises.
@@ -150,16 +65,6 @@ fn steepest<N: Number>(
     best
 }
 
-/// Whether the range of the column's variable ends before the row blocks it.
-fn ends_first<N: Number>(range: Option<i64>, blocking: Blocking<N>) -> bool {
-    let Some(range) = range else {
-        return false;
-    };
-    let own = N::of(range).product(blocking.size);
-    let left = N::difference(blocking.constant.product(N::of(1)), own);
-    !N::is_negative_product(left)
-}
-
 impl<N: Number> Simplex<N> {
     fn leave(&mut self, blocking: Blocking<N>, col: usize) -> Result<bool, AllocError> {
         if blocking.reflect && !self.reflect_row(blocking.row) {
@@ -168,14 +73,16 @@ impl<N: Number> Simplex<N> {
         self.pivot(blocking.row, col)
     }
 
-    fn ratio_test(&self, col: usize, rise: bool) -> Option<Blocking<N>> {
-        ratio_test(
+    fn ratio_test(&mut self, col: usize, rise: bool) -> Result<Option<Blocking<N>>, AllocError> {
+        self.pattern.list(col, &mut self.touched)?;
+        Ok(ratio_test(
             self.rows.as_slice(),
+            self.touched.as_slice(),
             self.variables.as_slice(),
             self.cost,
             col,
             rise,
-        )
+        ))
     }
 
     /// Makes the cost basic, by which it comes to stand strictly below the limit.
@@ -186,7 +93,7 @@ impl<N: Number> Simplex<N> {
         let Some(col) = self.cost_column() else {
             return Ok(Optimum::Reached);
         };
-        let Some(blocking) = self.ratio_test(col, false) else {
+        let Some(blocking) = self.ratio_test(col, false)? else {
             return Ok(Optimum::Unbounded { col, rise: false });
         };
         if !self.leave(blocking, col)? {
@@ -217,16 +124,16 @@ impl<N: Number> Simplex<N> {
             return Ok(Some(Optimum::Reached));
         };
         let range = self.range_of_column(col);
-        let moved = match self.ratio_test(col, rise) {
+        let moved = match self.ratio_test(col, rise)? {
             None => {
                 if range.is_none() {
                     return Ok(Some(Optimum::Unbounded { col, rise }));
                 }
-                self.reflect_column(col)
+                self.reflect_column(col)?
             },
             Some(blocking) => {
-                if ends_first(range, blocking) {
-                    self.reflect_column(col)
+                if blocking.is_behind(range) {
+                    self.reflect_column(col)?
                 } else {
                     self.leave(blocking, col)?
                 }

@@ -1,10 +1,9 @@
 //! Points and directions, as the constants and the columns of the dictionary show them.
 
 use crate::dictionary::Simplex;
-use crate::leaving::against_range;
 use lp_base::product;
 use simplex_numbers::Number;
-use simplex_rows::{Ratio, Row, Scale, Variable, common_multiple};
+use simplex_rows::{Ratio, Row, Scale, Variable, against_range, common_multiple};
 use std::alloc::{AllocError, Global};
 use std::cmp::Ordering;
 

@@ -38,6 +38,12 @@ pub fn wide_odd_part(n: u128) -> u128 {
     n.wrapping_shr(n.trailing_zeros())
 }
 
+/// One remainder takes a wide number to the width of a narrow one above 0.
+fn gcd_of_mixed(wide: u128, narrow: u64) -> u128 {
+    let rest = wide.checked_rem(u128::from(narrow)).unwrap_or(0);
+    u128::from(gcd(u64::try_from(rest).unwrap_or(0), narrow))
+}
+
 fn wide_gcd_of_odd(a: u128, b: u128) -> u128 {
     let mut x = a;
     let mut y = b;
@@ -45,11 +51,12 @@ fn wide_gcd_of_odd(a: u128, b: u128) -> u128 {
         if x == y {
             break;
         }
-        if x <= LARGEST_WORD && y <= LARGEST_WORD {
-            return u128::from(gcd(x as u64, y as u64));
-        }
         let low = x.min(y);
-        x = wide_odd_part(x.max(y).wrapping_sub(low));
+        let rest = wide_odd_part(x.max(y).wrapping_sub(low));
+        if low <= LARGEST_WORD {
+            return gcd_of_mixed(rest, low as u64);
+        }
+        x = rest;
         y = low;
     }
     y
@@ -63,8 +70,11 @@ pub fn wide_gcd(a: u128, b: u128) -> u128 {
     if b == 0 {
         return a;
     }
-    if a <= LARGEST_WORD && b <= LARGEST_WORD {
-        return u128::from(gcd(a as u64, b as u64));
+    if b <= LARGEST_WORD {
+        return gcd_of_mixed(a, b as u64);
+    }
+    if a <= LARGEST_WORD {
+        return gcd_of_mixed(b, a as u64);
     }
     let twos = (a | b).trailing_zeros();
     wide_gcd_of_odd(wide_odd_part(a), wide_odd_part(b)).wrapping_shl(twos)

@@ -1,5 +1,6 @@
 //! Rows of the dictionary, and the operations on them that take the time.
 
+use crate::pattern::Pattern;
 use simplex_numbers::Number;
 
 /// A row below this magnitude keeps its common divisor.
@@ -65,30 +66,25 @@ impl<N: Number> Factors<N> {
     }
 }
 
-/// In how many more rows a column is not zero where one entry changes.
-#[inline(always)]
-fn change<N: Number>(old: N, new: N) -> i64 {
-    i64::from(old.is_zero()).wrapping_sub(i64::from(new.is_zero()))
-}
-
-/// Takes `factor` times the terms from the numbers, and gives the sizes of the new ones, joined.
-/// `counts` keeps in how many rows each column is not zero.
+/// Takes `factor` times the terms from the numbers, which are those of row `i`, and gives the
+/// sizes of the new ones, joined.
 #[inline(always)]
 fn subtract<N: Number>(
     numbers: &mut [N],
     terms: &[(usize, N)],
     factor: N,
-    counts: &mut [i64],
+    pattern: &mut Pattern,
+    i: usize,
 ) -> N {
     let mut magnitude = N::of(0);
     for term in terms {
         let (k, v) = *term;
-        if k < numbers.len() && k < counts.len() {
+        if k < numbers.len() {
             let old = numbers[k];
             let new = old.minus(factor.times(v));
             numbers[k] = new;
             magnitude = magnitude.join(new.size());
-            counts[k] = counts[k].wrapping_add(change(old, new));
+            pattern.change(i, k, old, new);
         }
     }
     magnitude
@@ -188,16 +184,17 @@ fn divide_products<N: Number>(
     numbers: &mut [N],
     products: &[N::Product],
     divisor: N::ProductDivisor,
-    counts: &mut [i64],
+    pattern: &mut Pattern,
+    i: usize,
 ) -> Option<N> {
     let mut magnitude = N::of(0);
     for (k, product) in products.iter().enumerate() {
-        if k < numbers.len() && k < counts.len() {
+        if k < numbers.len() {
             let new = N::product_divided(*product, divisor)?;
             let old = numbers[k];
             numbers[k] = new;
             magnitude = magnitude.join(new.size());
-            counts[k] = counts[k].wrapping_add(change(old, new));
+            pattern.change(i, k, old, new);
         }
     }
     Some(magnitude)
@@ -238,6 +235,16 @@ impl<N: Number> Row<N> {
         self.magnitude = magnitude.join(self.den.size()).join(self.constant.size());
     }
 
+    /// Takes out the common divisor, unless the magnitude is as it was the last time. Whether it did.
+    fn reduce_again(&mut self) -> bool {
+        let grown = self.magnitude.is_above(self.reduced_magnitude);
+        if grown {
+            self.reduce();
+            self.reduced_magnitude = self.magnitude;
+        }
+        grown
+    }
+
     /// Multiplies the entries. None where one may not fit: then nothing has changed.
     pub fn multiply(&mut self, factor: N) -> Option<()> {
         let zero = N::of(0);
@@ -254,7 +261,8 @@ impl<N: Number> Row<N> {
         pivot: PivotRow<N>,
         factors: Factors<N>,
         terms: &[(usize, N)],
-        counts: &mut [i64],
+        pattern: &mut Pattern,
+        i: usize,
     ) {
         let Factors { own, other } = factors;
         let mut magnitude = self.magnitude;
@@ -264,7 +272,7 @@ impl<N: Number> Row<N> {
             self.constant = self.constant.times(own);
             magnitude = magnitude.join(magnitude.saturating_times(own));
         }
-        let changed = subtract(self.entries.as_mut_slice(), terms, other, counts);
+        let changed = subtract(self.entries.as_mut_slice(), terms, other, pattern, i);
         self.constant = self.constant.minus(other.times(pivot.constant));
         let left = other.times(pivot.den);
         put(self.entries.as_mut_slice(), pivot.col, left);
@@ -288,7 +296,8 @@ impl<N: Number> Row<N> {
         pivot: PivotRow<N>,
         factors: Factors<N>,
         terms: &[(usize, N)],
-        counts: &mut [i64],
+        pattern: &mut Pattern,
+        i: usize,
         products: &mut [N::Product],
     ) -> Option<()> {
         let Factors { own, other } = factors;
@@ -301,21 +310,29 @@ impl<N: Number> Row<N> {
         let divisor = common_product_divisor::<N>(start, products)?;
         self.den = N::product_divided(den, divisor)?;
         self.constant = N::product_divided(constant, divisor)?;
-        let magnitude = divide_products(self.entries.as_mut_slice(), products, divisor, counts)?;
+        let magnitude = divide_products(
+            self.entries.as_mut_slice(),
+            products,
+            divisor,
+            pattern,
+            i,
+        )?;
         self.magnitude = magnitude.join(self.den.size()).join(self.constant.size());
         self.reduced_magnitude = self.magnitude;
         Some(())
     }
 
     /// Puts for the variable that enters what the pivot's row says of it. `terms` are the terms of
-    /// that row but for its entry there, and `products` is room for one row. False where a number
+    /// that row but for its entry there, `i` is the number of this row, and `products` is room for one
+    /// row. False where a number
     /// does not fit: the dictionary is then of no use.
     #[inline(always)]
     pub fn eliminate(
         &mut self,
         pivot: PivotRow<N>,
         terms: &[(usize, N)],
-        counts: &mut [i64],
+        pattern: &mut Pattern,
+        i: usize,
         products: &mut [N::Product],
     ) -> bool {
         let entry = self.entry(pivot.col);
@@ -324,15 +341,16 @@ impl<N: Number> Row<N> {
         }
         let mut factors = Factors::of(entry, pivot.entry);
         if !factors.fit(self.magnitude, pivot.magnitude) {
-            self.reduce();
-            factors = Factors::of(self.entry(pivot.col), pivot.entry);
+            if self.reduce_again() {
+                factors = Factors::of(self.entry(pivot.col), pivot.entry);
+            }
             if !factors.fit(self.magnitude, pivot.magnitude) {
                 return self
-                    .eliminate_wide(pivot, factors, terms, counts, products)
+                    .eliminate_wide(pivot, factors, terms, pattern, i, products)
                     .is_some();
             }
         }
-        self.eliminate_narrow(pivot, factors, terms, counts);
+        self.eliminate_narrow(pivot, factors, terms, pattern, i);
         true
     }
 

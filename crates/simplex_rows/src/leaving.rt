@@ -1,7 +1,8 @@
 //! The row whose variable is to leave: that of the largest violation.
 
+use crate::row::Row;
+use crate::variable::{Variable, variable_at};
 use simplex_numbers::Number;
-use simplex_rows::{Row, Variable, variable_at};
 use std::cmp::Ordering;
 
 /// How the variable of a row is to move. It is first counted from its other bound where `reflect`
@@ -102,6 +103,9 @@ fn repair_of<N: Number>(row: &Row<N>, variable: Variable, slope: N) -> Option<Re
     if variable.is_held_here() {
         return here(false);
     }
+    if variable.range == Some(0) {
+        return reflected(true);
+    }
     None
 }
 
@@ -109,8 +113,6 @@ fn repair_of<N: Number>(row: &Row<N>, variable: Variable, slope: N) -> Option<Re
 #[derive(Clone, Copy)]
 pub struct Leaving {
     pub row: usize,
-    variable: usize,
-    violation: u64,
     pub repair: Repair,
 }
 
@@ -147,37 +149,84 @@ fn repair_by_rule<N: Number>(
     repair_of(row, variable_at(variables, row.variable), slope)
 }
 
-/// The row of the largest violation, and of these that of the least variable. None where no bound
-/// is violated.
+/// 0 where the variable of the row violates no bound, and else more the further it is off.
+#[inline(always)]
+fn violation_of<N: Number>(row: &Row<N>, variables: &[Variable], rule: PivotRule) -> u64 {
+    match repair_by_rule(row, variables, rule) {
+        None => 0,
+        Some(_) => row.constant.size().thousandths(row.den).saturating_add(1),
+    }
+}
+
+/// Measures the violation of each row.
+pub fn measure_all<N: Number>(
+    violations: &mut [u64],
+    rows: &[Row<N>],
+    variables: &[Variable],
+    rule: PivotRule,
+) {
+    for (i, row) in rows.iter().enumerate() {
+        if i < violations.len() {
+            violations[i] = violation_of(row, variables, rule);
+        }
+    }
+}
+
+/// Measures the violations of some rows.
+pub fn measure<N: Number>(
+    violations: &mut [u64],
+    rows: &[Row<N>],
+    touched: &[usize],
+    variables: &[Variable],
+    rule: PivotRule,
+) {
+    for number in touched {
+        let i = *number;
+        if i < violations.len() && i < rows.len() {
+            violations[i] = violation_of(&rows[i], variables, rule);
+        }
+    }
+}
+
+/// The variable of a row, and past the last one none.
+#[inline(always)]
+fn basic_at<N: Number>(rows: &[Row<N>], i: usize) -> usize {
+    if i < rows.len() {
+        rows[i].variable
+    } else {
+        usize::MAX
+    }
+}
+
+/// The row of the largest violation, and of these that of the least variable.
+fn most_violated<N: Number>(violations: &[u64], rows: &[Row<N>], bland: bool) -> Option<usize> {
+    let mut best: Option<(u64, usize)> = None;
+    for (i, violation) in violations.iter().enumerate() {
+        if *violation == 0 {
+            continue;
+        }
+        let key = if bland { 1 } else { *violation };
+        let better = match best {
+            None => true,
+            Some((most, first)) => {
+                key > most || (key == most && basic_at(rows, i) < basic_at(rows, first))
+            },
+        };
+        if better {
+            best = Some((key, i));
+        }
+    }
+    best.map(|(_, i)| i)
+}
+
+/// The row of the largest violation, as they were measured. None where no bound is violated.
 pub fn leaving_row<N: Number>(
+    violations: &[u64],
     rows: &[Row<N>],
     variables: &[Variable],
     rule: PivotRule,
 ) -> Option<Leaving> {
-    let mut best: Option<Leaving> = None;
-    for (i, row) in rows.iter().enumerate() {
-        let Some(repair) = repair_by_rule(row, variables, rule) else {
-            continue;
-        };
-        let violation = if rule.bland {
-            0
-        } else {
-            row.constant.size().thousandths(row.den)
-        };
-        let better = match best {
-            None => true,
-            Some(b) => {
-                violation > b.violation || (violation == b.violation && row.variable < b.variable)
-            },
-        };
-        if better {
-            best = Some(Leaving {
-                row: i,
-                variable: row.variable,
-                violation,
-                repair,
-            });
-        }
-    }
-    best
+    let row = most_violated(violations, rows, rule.bland)?;
+    let repair = repair_by_rule(rows.get(row)?, variables, rule)?;
+    Some(Leaving { row, repair })
 }
