@@ -1,8 +1,9 @@
 //! Opening pages: the first of each lane, and one behind those of a lane.
-ghost use Rattle.std.specs.Prelude.{◌≡◌, ◌<◌, ◌≤◌, ◌^◌, ℕ, List, [], IfOk, OnOk, OnErr, All, length, map, replicate, slice_index_or};
+ghost use Rattle.std.specs.Prelude.{◌≡◌, ◌<◌, ◌≤◌, ◌*◌, ◌^◌, ℕ, List, [], IfOk, OnOk, OnErr, All, length, map, min, replicate, slice_index, slice_index_or, slice_set};
 ghost use Rattle.std.specs.Arc.{arc_value};
 ghost use Rattle.cut_pool.specs.Opened.{IsFirstLane, IsRoom, RowWaits};
 ghost use Rattle.cut_pool.specs.Reaches.{ReachView, TookAll, TurnedPage, bare_reach, no_lane};
+ghost use Rattle.cut_pool.specs.declared.rooms.TheConstants.{MOST_ROOM};
 
 use crate::handing::{Handed, OpenedLane, take_all};
 use crate::lane::Lane;
@@ -34,6 +35,7 @@ pub fn open_more(
         → RowWaits (arc_value case.now) lanes.old.items row w → RowWaits (arc_value case.now) lanes.new.items row w }
     ensures count { length lanes.new.items ≡ length lanes.old.items }
     ensures rooms { (length rooms.new.items ≡ length rooms.old.items) × All IsRoom rooms.new.items }
+    ensures twice { OnOk result (rooms.new.items ≡ slice_set rooms.old.items worker (min (2 * slice_index rooms.old.items worker) MOST_ROOM)) }
 {
     let workers = lanes.len() as u32;
     let room = next_room(rooms[worker]);

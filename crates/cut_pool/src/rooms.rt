@@ -1,4 +1,5 @@
 //! How many items the pages of a lane have room for.
+ghost use Rattle.std.specs.Prelude.{◌≡◌, ◌*◌, min};
 ghost use Rattle.cut_pool.specs.Opened.{IsRoom};
 
 /// As many items as a first page has room for.
@@ -10,7 +11,8 @@ pub const MOST_ROOM: u32 = 1024;
 /// The room of the page behind one of this room: twice as much, up to the most.
 pub fn next_room(room: u32) -> u32
     requires { IsRoom room }
-    ensures { IsRoom result }
+    ensures room { IsRoom result }
+    ensures twice { result ≡ min (2 * room) MOST_ROOM }
 {
     if 2 * room < MOST_ROOM {
         2 * room
