@@ -1,0 +1,118 @@
+//! What a worker does with the desk while it holds the lock. What is found under a lock is known by
+//! its type alone, so each time the desk is asked first whether it is that of this run, and whether
+//! the worker's reach and ticket are those that it knows.
+ghost use Rattle.std.specs.Prelude.{◌≡◌, IsTrue, IfOk, None, Some};
+ghost use Rattle.std.specs.Option.{option_copied};
+ghost use Rattle.desk.specs.Desks.{Fits};
+ghost use Rattle.worker.specs.Turns.{IsDrawn, IsReachOf, MaySettleBy, Takes};
+
+use cut_pool::Reach;
+use desk::{Desk, Draw};
+use lpcc_case::Case;
+use play::{Options, Outcome, Ticket};
+use std::alloc::{AllocError, Global};
+
+/// What the desk gives a worker.
+#[derive(Drop)]
+pub enum Turn {
+    /// A piece to be solved.
+    Piece(Ticket),
+    /// Nothing now.
+    Pause,
+    /// Nothing any more.
+    Over,
+}
+
+/// Whether the desk is one of this case and these options, and of the worker's tickets in flight
+/// there is none, or just this one.
+fn is_known(
+    case: &Case,
+    options: &Options,
+    desk: &Desk,
+    worker: u32,
+    reach: &Reach,
+    ticket: Option<&Ticket>,
+) -> bool
+    ensures case { IsTrue result → desk.now.run.case_of ≡ case.now }
+    ensures options { IsTrue result → desk.now.run.options ≡ options.now }
+    ensures fits { IsTrue result → Fits desk.now worker reach.now (option_copied ticket.entry) }
+{
+    desk.is_for(case, options) && desk.fits(worker, reach, ticket)
+}
+
+/// Readies the worker's reach, and draws.
+#[tactic(auto, using(crate::proofs::OwnLaws::readied))]
+fn draw(
+    alloc: Global,
+    case: &Case,
+    options: &Options,
+    desk: &mut Desk,
+    worker: u32,
+    reach: &mut Reach,
+) -> Result<Turn, AllocError>
+    requires case { desk.old.run.case_of ≡ case.now }
+    requires fits { Fits desk.old worker reach.old None }
+    requires reach { IsReachOf case.now options.now worker reach.old }
+    ensures reach { IsReachOf case.now options.now worker reach.new }
+    ensures turn { IfOk result (Takes case.now worker reach.new) }
+{
+    desk.ready(alloc, worker, reach)?;
+    match desk.draw(alloc, worker)? {
+        Draw::Piece(ticket) => Ok(Turn::Piece(ticket)),
+        Draw::Pause => Ok(Turn::Pause),
+        Draw::Done | Draw::Left => Ok(Turn::Over),
+    }
+}
+
+/// Takes what the desk gives. A worker that the desk does not know, or that has no memory, abandons
+/// it.
+pub fn take_turn(
+    alloc: Global,
+    case: &Case,
+    options: &Options,
+    desk: &mut Desk,
+    worker: u32,
+    reach: &mut Reach,
+) -> Turn
+    requires reach { IsReachOf case.now options.now worker reach.old }
+    ensures reach { IsReachOf case.now options.now worker reach.new }
+    ensures turn { Takes case.now worker reach.new result }
+{
+    if !is_known(case, options, desk, worker, reach, None) {
+        desk.abandon(None);
+        return Turn::Over;
+    }
+    match draw(alloc, case, options, desk, worker, reach) {
+        Ok(turn) => turn,
+        Err(_) => {
+            desk.abandon(None);
+            Turn::Over
+        }
+    }
+}
+
+/// Settles a ticket. A worker that the desk does not know, or that has no memory, abandons it with
+/// the ticket; then it is false.
+pub fn settle(
+    alloc: Global,
+    case: &Case,
+    options: &Options,
+    desk: &mut Desk,
+    reach: &Reach,
+    ticket: Ticket,
+    outcome: Outcome,
+) -> bool
+    requires { MaySettleBy case.now options.now ticket reach.now outcome }
+{
+    if !is_known(case, options, desk, ticket.worker, reach, Some(&ticket)) {
+        desk.abandon(Some(ticket));
+        return false;
+    }
+    match desk.settle(alloc, reach, ticket, outcome) {
+        Ok(()) => true,
+        Err((ticket, _)) => {
+            desk.abandon(Some(ticket));
+            false
+        }
+    }
+}
