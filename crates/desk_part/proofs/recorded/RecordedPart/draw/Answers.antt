@@ -17,7 +17,7 @@ returns-clause-ok c =
     let a = arc_value c.self.inside.case in
     let P : Instance → Type 0 = λ x. IfOk c.draw.result (Draws x c.self.inside.options c.args.worker c.self.inside.part c.draw.new.self) in
     drawn_from c.args.worker (standing a c.self.inside.options c.self.inside.part) c.args.self.now (standing a c.self.inside.options c.draw.new.self) c.draw.result c.self.view_is
-      (drawn_on a c.self.inside.options c.args.worker c.self.inside.part c.draw.new.self c.draw.result (subst P c.deref.ensures c.draw.ensures.ok))
+    (drawn_on a c.self.inside.options c.args.worker c.self.inside.part c.draw.new.self c.draw.result (subst P c.deref.ensures c.draw.ensures.ok))
 
 pub returns-clause-err : goal.returns-clause-err
 returns-clause-err c =

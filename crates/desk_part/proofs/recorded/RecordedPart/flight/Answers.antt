@@ -8,4 +8,4 @@ use Rattle.desk_part.proofs.recorded.RecordedPart.flight.Goals as goal
 pub returns-clause-apart : goal.returns-clause-apart
 returns-clause-apart c =
     subst (λ (s : Standing). AreApart number_of s.part.flight) c.self.view_is
-      (carried_orderly (arc_value c.self.inside.case) c.self.inside.options c.self.invariant.0.0 c.self.inside.part c.self.invariant.0.1).flight
+    (carried_orderly (arc_value c.self.inside.case) c.self.inside.options c.self.invariant.0.0 c.self.inside.part c.self.invariant.0.1).flight
