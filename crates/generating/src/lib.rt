@@ -1,6 +1,7 @@
 //! The command that makes a deck from a number, and solves it where that is asked.
 #![tactic(auto)]
 
+ghost use Rattle.engine.specs.Solved.{alone};
 ghost use Rattle.generating.specs.Generating.{IsDrafted, IsGenerated, IsGeneratedAndSolved};
 
 use command::{Status, give, give_no_memory};
@@ -44,7 +45,7 @@ pub fn generate_and_solve<K: Sink>(
     out: &mut K,
 ) -> Status
     requires { IsDrafted (record { seed = seed; columns = columns; rows = rows; pairs = pairs }) }
-    ensures { IsGeneratedAndSolved options.now (record { seed = seed; columns = columns; rows = rows; pairs = pairs })
+    ensures { IsGeneratedAndSolved (alone options.now) (record { seed = seed; columns = columns; rows = rows; pairs = pairs })
         (K.taken out.old) (K.taken out.new) (K.faults out.old) (K.faults out.new) result }
 {
     match deck(alloc, seed, columns, rows, pairs) {

@@ -1,11 +1,11 @@
 -- One command, and the statuses of commands.
 use Rattle.std.proofs.Common.{ℕ, ◌≡◌, ◌∙◌, refl, sym, ap, subst, arith, true, false, Bool, List, Option, None, Some, inl, inr}
-use Rattle.std.specs.Prelude.{Ok, Err, Result}
+use Rattle.std.specs.Prelude.{◌⊎◌, ◌≢◌, Ok, Err, Result}
 use Rattle.lpcc_case.specs.Instance.{Instance}
 use Rattle.command.specs.Answers.{IsWritten}
 use Rattle.command.specs.Refusals as refusals
 use Rattle.command.specs.Inputs.{SpellsAlone}
-use Rattle.command.specs.Runs.{IsRun, IsWrittenFor}
+use Rattle.command.specs.Runs.{IsRightCase, IsRun, IsWrittenFor}
 use Rattle.command.specs.declared.refusal.Refusal.{Refusal}
 use Rattle.command.specs.declared.refusal.Refusal.TheVariants.{Deck, NoMemory, ReadFault, RowWide, TooLong, TooMany}
 use Rattle.deck_gen.specs.Generator.{deck_text}
@@ -25,7 +25,9 @@ use Rattle.words.specs.declared.command.Command.{Command}
 use Rattle.words.specs.declared.command.Command.TheVariants.{Check, Generate, Relax, Solve}
 use Rattle.words.specs.declared.command.Draft.{Draft}
 use Rattle.words.specs.declared.command.Settings.{Settings}
-use Rattle.lpcc.specs.Commands.{IsCommand, Runs, options_of, sizes_of, usual}
+use Rattle.verifier.specs.declared.answer.Answer.TheVariants.{Refused}
+use Rattle.lpcc.specs.Answers.{Answers, words_refused}
+use Rattle.lpcc.specs.Commands.{IsCommand, IsNoCommand, Runs, sizes_of, usual}
 
 -- ---- one command
 
@@ -37,8 +39,8 @@ one_command : (words : List (List ℕ)) (c d : Command) → IsCommand words c �
 unfolding value_in
 one_command words c d h k = ap (value_in c) (sym h.0 ∙ k.0)
 
-pub of_one : (words : List (List ℕ)) (c d : Command) (left : Option (List ℕ)) (rb rn : ℕ) (tb tn : Option (List ℕ)) (wb wn status : ℕ) → IsCommand words c → IsCommand words d → Runs c left rb rn tb tn wb wn status → Runs d left rb rn tb tn wb wn status
-of_one words c d left rb rn tb tn wb wn status h k run = subst (λ (x : Command). Runs x left rb rn tb tn wb wn status) (one_command words c d h k) run
+pub of_one : (o : Settings → Options) (words : List (List ℕ)) (c d : Command) (left : Option (List ℕ)) (rb rn : ℕ) (tb tn : Option (List ℕ)) (wb wn status : ℕ) → IsCommand words c → IsCommand words d → Runs o c left rb rn tb tn wb wn status → Runs o d left rb rn tb tn wb wn status
+of_one o words c d left rb rn tb tn wb wn status h k run = subst (λ (x : Command). Runs o x left rb rn tb tn wb wn status) (one_command words c d h k) run
 
 pub is_one : (words : List (List ℕ)) (c d : Command) → IsCommand words c → IsCommand words d → c ≡ d
 is_one words c d h k = one_command words c d h k
@@ -90,36 +92,94 @@ solved_not_two : (z : Sizes) (tb tn : Option (List ℕ)) (wb wn : ℕ) → IsGen
 solved_not_two z tb tn wb wn (inl w) = solve_not_two usual true (Some (deck_text z)) w.0 w.1 tb tn wb wn w.2
 solved_not_two z tb tn wb wn (inr w) = memory_not_two tb tn wb wn w
 
-made_not_two : (draft : Draft) (left : Option (List ℕ)) (rb rn : ℕ) (tb tn : Option (List ℕ)) (wb wn : ℕ) (b : Bool) → draft.solve ≡ b → Runs (Generate draft) left rb rn tb tn wb wn 2 → ⊥
-made_not_two draft left rb rn tb tn wb wn false e run = plain_not_two (sizes_of draft) tb tn wb wn (run.0 e)
-made_not_two draft left rb rn tb tn wb wn true e run = solved_not_two (sizes_of draft) tb tn wb wn (run.1 e)
+made_not_two : (o : Settings → Options) (draft : Draft) (left : Option (List ℕ)) (rb rn : ℕ) (tb tn : Option (List ℕ)) (wb wn : ℕ) (b : Bool) → draft.solve ≡ b → Runs o (Generate draft) left rb rn tb tn wb wn 2 → ⊥
+made_not_two o draft left rb rn tb tn wb wn false e run = plain_not_two (sizes_of draft) tb tn wb wn (run.0 e)
+made_not_two o draft left rb rn tb tn wb wn true e run = solved_not_two (sizes_of draft) tb tn wb wn (run.1 e)
 
 abbrev pub NotTwo : Type 0
 NotTwo = (left : Option (List ℕ)) (rb rn : ℕ) (tb tn : Option (List ℕ)) (wb wn status : ℕ) → IsChecked left rb rn tb tn wb wn status → status ≡ 2 → ⊥
 
-not_two : NotTwo → (c : Command) (left : Option (List ℕ)) (rb rn : ℕ) (tb tn : Option (List ℕ)) (wb wn : ℕ) → Runs c left rb rn tb tn wb wn 2 → ⊥
-not_two law Check left rb rn tb tn wb wn run = law left rb rn tb tn wb wn 2 run.0 refl
-not_two law (Relax q) left rb rn tb tn wb wn run = run_not_two (relaxing.Says q) left rb rn tb tn wb wn (λ a text meant says e. relaxation_not_two says.end (e ∙ says.status_is)) run.0
-not_two law (Solve s) left rb rn tb tn wb wn run = solve_not_two (options_of s) s.brief left rb rn tb tn wb wn run.0
-not_two law (Generate d) left rb rn tb tn wb wn run = made_not_two d left rb rn tb tn wb wn d.solve refl run
+not_two : (o : Settings → Options) → NotTwo → (c : Command) (left : Option (List ℕ)) (rb rn : ℕ) (tb tn : Option (List ℕ)) (wb wn : ℕ) → Runs o c left rb rn tb tn wb wn 2 → ⊥
+not_two o law Check left rb rn tb tn wb wn run = law left rb rn tb tn wb wn 2 run.0 refl
+not_two o law (Relax q) left rb rn tb tn wb wn run = run_not_two (relaxing.Says q) left rb rn tb tn wb wn (λ a text meant says e. relaxation_not_two says.end (e ∙ says.status_is)) run.0
+not_two o law (Solve s) left rb rn tb tn wb wn run = solve_not_two (o s) s.brief left rb rn tb tn wb wn run.0
+not_two o law (Generate d) left rb rn tb tn wb wn run = made_not_two o d left rb rn tb tn wb wn d.solve refl run
 
-pub never_two : NotTwo → (c : Command) (left : Option (List ℕ)) (rb rn : ℕ) (tb tn : Option (List ℕ)) (wb wn status : ℕ) → Runs c left rb rn tb tn wb wn status → status ≡ 2 → ⊥
-never_two law c left rb rn tb tn wb wn status run two = not_two law c left rb rn tb tn wb wn (subst (λ (n : ℕ). Runs c left rb rn tb tn wb wn n) two run)
+pub never_two : (o : Settings → Options) → NotTwo → (c : Command) (left : Option (List ℕ)) (rb rn : ℕ) (tb tn : Option (List ℕ)) (wb wn status : ℕ) → Runs o c left rb rn tb tn wb wn status → status ≡ 2 → ⊥
+never_two o law c left rb rn tb tn wb wn status run two = not_two o law c left rb rn tb tn wb wn (subst (λ (n : ℕ). Runs o c left rb rn tb tn wb wn n) two run)
 
 -- ---- the commands
 
-pub at_command : (c d : Command) (left : Option (List ℕ)) (rb rn : ℕ) (tb tn : Option (List ℕ)) (wb wn status : ℕ) → c ≡ d → Runs d left rb rn tb tn wb wn status → Runs c left rb rn tb tn wb wn status
-at_command c d left rb rn tb tn wb wn status e run = subst (λ (x : Command). Runs x left rb rn tb tn wb wn status) (sym e) run
+pub at_command : (o : Settings → Options) (c d : Command) (left : Option (List ℕ)) (rb rn : ℕ) (tb tn : Option (List ℕ)) (wb wn status : ℕ) → c ≡ d → Runs o d left rb rn tb tn wb wn status → Runs o c left rb rn tb tn wb wn status
+at_command o c d left rb rn tb tn wb wn status e run = subst (λ (x : Command). Runs o x left rb rn tb tn wb wn status) (sym e) run
 
-pub of_solve : (s : Settings) (o : Options) (left : Option (List ℕ)) (rb rn : ℕ) (tb tn : Option (List ℕ)) (wb wn status : ℕ) → o ≡ options_of s → IsRun (solving.Says o s.brief) left rb rn tb tn wb wn status → (status ≡ 0 → (bytes : List ℕ) → left ≡ Some bytes → solving.SaysVerdict bytes o s.brief tb tn) → ((bytes : List ℕ) → left ≡ Some bytes → (a : Instance) → SpellsAlone bytes a → solving.AreEnough a o → status ≡ 8 → ⊥) → Runs (Solve s) left rb rn tb tn wb wn status
-of_solve s o left rb rn tb tn wb wn status e answered verdict enough = (
+pub of_solve : (how : Settings → Options) (s : Settings) (o : Options) (left : Option (List ℕ)) (rb rn : ℕ) (tb tn : Option (List ℕ)) (wb wn status : ℕ) → o ≡ how s → IsRun (solving.Says o s.brief) left rb rn tb tn wb wn status → (status ≡ 0 → (bytes : List ℕ) → left ≡ Some bytes → solving.SaysVerdict bytes o s.brief tb tn) → ((bytes : List ℕ) → left ≡ Some bytes → (a : Instance) → SpellsAlone bytes a → solving.AreEnough a o → status ≡ 8 → ⊥) → Runs how (Solve s) left rb rn tb tn wb wn status
+of_solve how s o left rb rn tb tn wb wn status e answered verdict enough = (
   subst (λ (x : Options). IsRun (solving.Says x s.brief) left rb rn tb tn wb wn status) e answered,
   λ zero bytes told. subst (λ (x : Options). solving.SaysVerdict bytes x s.brief tb tn) e (verdict zero bytes told),
   λ bytes told a spelled many. enough bytes told a spelled (subst (λ (x : Options). solving.AreEnough a x) (sym e) many),
 )
 
-pub of_usual : (d : Draft) (o : Options) (left : Option (List ℕ)) (rb rn : ℕ) (tb tn : Option (List ℕ)) (wb wn status : ℕ) → d.solve ≡ true → o ≡ usual → IsGeneratedAndSolved o (sizes_of d) tb tn wb wn status → Runs (Generate d) left rb rn tb tn wb wn status
-of_usual d o left rb rn tb tn wb wn status on e made = (
+pub of_usual : (how : Settings → Options) (d : Draft) (o : Options) (left : Option (List ℕ)) (rb rn : ℕ) (tb tn : Option (List ℕ)) (wb wn status : ℕ) → d.solve ≡ true → o ≡ usual → IsGeneratedAndSolved o (sizes_of d) tb tn wb wn status → Runs how (Generate d) left rb rn tb tn wb wn status
+of_usual how d o left rb rn tb tn wb wn status on e made = (
   λ off. absurd (cc (on, off)),
   λ _. subst (λ (x : Options). IsGeneratedAndSolved x (sizes_of d) tb tn wb wn status) e made,
 )
+
+-- ---- want of memory
+
+short_read : (left : Option (List ℕ)) (count : ℕ) → IsRightCase left count count (Err NoMemory)
+short_read left count = record { counted = λ e. absurd (cc e); right = λ bytes told. inr (inl refl) }
+
+short_run : (Says : Instance → List ℕ → ℕ → Type 0) (left : Option (List ℕ)) (count : ℕ) (tb tn : Option (List ℕ)) (wb wn status : ℕ) → IsOutOfMemory tb tn wb wn status → IsRun Says left count count tb tn wb wn status
+short_run Says left count tb tn wb wn status short = record { read = Err NoMemory; right = short_read left count; written = short }
+
+short_check : (left : Option (List ℕ)) (count : ℕ) (tb tn : Option (List ℕ)) (wb wn status : ℕ) → IsOutOfMemory tb tn wb wn status → IsChecked left count count tb tn wb wn status
+short_check left count tb tn wb wn status short = record { answer = Refused NoMemory; right = record { counted = λ e. absurd (cc e); right = λ bytes told. inr (inl refl) }; written = short }
+
+five_or_six : (tb tn : Option (List ℕ)) (wb wn status : ℕ) → IsOutOfMemory tb tn wb wn status → (status ≡ 5) ⊎ (status ≡ 6)
+five_or_six tb tn wb wn status (inl w) = inr w.0
+five_or_six tb tn wb wn status (inr w) = inl w.0
+
+is_other : (k status : ℕ) → k ≢ 5 → k ≢ 6 → (status ≡ 5) ⊎ (status ≡ 6) → status ≡ k → ⊥
+is_other k status five six (inl e) same = five (sym same ∙ e)
+is_other k status five six (inr e) same = six (sym same ∙ e)
+
+-- want of memory is an answer to every command
+pub of_memory : (how : Settings → Options) (c : Command) (left : Option (List ℕ)) (count : ℕ) (tb tn : Option (List ℕ)) (wb wn status : ℕ) → IsOutOfMemory tb tn wb wn status → Runs how c left count count tb tn wb wn status
+of_memory how Check left count tb tn wb wn status short =
+    let five_six = five_or_six tb tn wb wn status short in
+    (short_check left count tb tn wb wn status short, λ zero. absurd (is_other 0 status (λ e. omega arith) (λ e. omega arith) five_six zero))
+of_memory how (Relax q) left count tb tn wb wn status short =
+    let five_six = five_or_six tb tn wb wn status short in
+    (short_run (relaxing.Says q) left count tb tn wb wn status short, λ zero. absurd (is_other 0 status (λ e. omega arith) (λ e. omega arith) five_six zero), λ bytes told a spelled many eight. is_other 8 status (λ e. omega arith) (λ e. omega arith) five_six eight)
+of_memory how (Solve s) left count tb tn wb wn status short =
+    let five_six = five_or_six tb tn wb wn status short in
+    (short_run (solving.Says (how s) s.brief) left count tb tn wb wn status short, λ zero. absurd (is_other 0 status (λ e. omega arith) (λ e. omega arith) five_six zero), λ bytes told a spelled many eight. is_other 8 status (λ e. omega arith) (λ e. omega arith) five_six eight)
+of_memory how (Generate d) left count tb tn wb wn status short = (λ off. inr short, λ on. inr short)
+
+pub memory_never_two : (tb tn : Option (List ℕ)) (wb wn status : ℕ) → IsOutOfMemory tb tn wb wn status → status ≡ 2 → ⊥
+memory_never_two tb tn wb wn status short two = is_other 2 status (λ e. omega arith) (λ e. omega arith) (five_or_six tb tn wb wn status short) two
+
+-- ---- the answers to words
+
+pub answers_to_command : (how : Settings → Options) (words : List (List ℕ)) (c : Command) (left : Option (List ℕ)) (rb rn : ℕ) (tb tn : Option (List ℕ)) (wb wn status : ℕ) → NotTwo → IsCommand words c → Runs how c left rb rn tb tn wb wn status → Answers how words left rb rn tb tn wb wn status
+answers_to_command how words c left rb rn tb tn wb wn status law is run = record {
+  refused = λ none. absurd (none c is);
+  refused_only = λ two. absurd (never_two how law c left rb rn tb tn wb wn status run two);
+  answered = λ d other. of_one how words c d left rb rn tb tn wb wn status is other run;
+}
+
+pub answers_to_no_command : (how : Settings → Options) (words : List (List ℕ)) (left : Option (List ℕ)) (rb rn : ℕ) (tb tn : Option (List ℕ)) (wb wn status : ℕ) → IsNoCommand words → IsWritten tb tn wb wn words_refused 2 status → Answers how words left rb rn tb tn wb wn status
+answers_to_no_command how words left rb rn tb tn wb wn status none written = record {
+  refused = λ _. inl written;
+  refused_only = λ _. none;
+  answered = λ c is. absurd (none c is);
+}
+
+pub answers_without_memory : (how : Settings → Options) (words : List (List ℕ)) (left : Option (List ℕ)) (count : ℕ) (tb tn : Option (List ℕ)) (wb wn status : ℕ) → IsOutOfMemory tb tn wb wn status → Answers how words left count count tb tn wb wn status
+answers_without_memory how words left count tb tn wb wn status short = record {
+  refused = λ _. inr short;
+  refused_only = λ two. absurd (memory_never_two tb tn wb wn status short two);
+  answered = λ c is. of_memory how c left count tb tn wb wn status short;
+}

@@ -18,10 +18,6 @@ use Rattle.words.specs.declared.command.Draft.{Draft}
 use Rattle.words.specs.declared.command.Settings.{Settings}
 use Rattle.words.specs.declared.command.TheConstants.{USUAL_PIECES, USUAL_PIVOTS}
 
--- what is written where the words are no command
-abbrev pub words_refused : List ℕ
-words_refused = codes "words: not a command of lpcc" ++ 10 ∷ []
-
 -- there is such a deck
 abbrev pub IsPossible : Command → Type 0
 IsPossible Check = ⊤
@@ -33,9 +29,22 @@ IsPossible (Generate draft) = IsInRange draft.columns draft.rows draft.pairs
 abbrev pub IsCommand : List (List ℕ) → Command → Type 0
 IsCommand words command = (command_of words ≡ Some command) × IsPossible command
 
--- the options of a run with one worker
-abbrev pub options_of : Settings → Options
-options_of s = record { workers = 1; pieces = s.pieces; pivots = s.pivots; shrink = if s.full then Full else Off }
+abbrev pub IsNoCommand : List (List ℕ) → Type 0
+IsNoCommand words = (c : Command) → IsCommand words c → ⊥
+
+-- the words are no command, or a deck is made
+abbrev pub ReadsNothing : List (List ℕ) → Type 0
+ReadsNothing words = (c : Command) → IsCommand words c → (d : Draft) × (c ≡ Generate d)
+
+-- ---- the options of a solve
+
+-- as the words ask for it
+abbrev pub as_asked : Settings → Options
+as_asked s = record { workers = s.workers; pieces = s.pieces; pivots = s.pivots; shrink = if s.full then Full else Off }
+
+-- with one worker, whatever number of workers the words name
+abbrev pub by_one_worker : Settings → Options
+by_one_worker s = record (as_asked s) { workers = 1 }
 
 abbrev pub usual : Options
 usual = record { workers = 1; pieces = USUAL_PIECES; pivots = USUAL_PIVOTS; shrink = Full }
@@ -43,21 +52,23 @@ usual = record { workers = 1; pieces = USUAL_PIECES; pivots = USUAL_PIVOTS; shri
 abbrev pub sizes_of : Draft → Sizes
 sizes_of d = record { seed = d.seed; columns = d.columns; rows = d.rows; pairs = d.pairs }
 
+-- ---- what a run says
+
 -- What a run of the command does over a source with these bytes left and a sink that took these, with the counts of faults
--- of both before and behind it: the right answer is written; what status 0 says; and that budgets which are enough are never
--- spent.
-abbrev pub Runs : Command → Option (List ℕ) → ℕ → ℕ → Option (List ℕ) → Option (List ℕ) → ℕ → ℕ → ℕ → Type 0
-Runs Check left rb rn tb tn wb wn status =
+-- of both before and behind it, a solve being made with the options that `options_of` gives it: the right answer is
+-- written; what status 0 says; and that budgets which are enough are never spent.
+abbrev pub Runs : (Settings → Options) → Command → Option (List ℕ) → ℕ → ℕ → Option (List ℕ) → Option (List ℕ) → ℕ → ℕ → ℕ → Type 0
+Runs options_of Check left rb rn tb tn wb wn status =
     IsChecked left rb rn tb tn wb wn status
     × (status ≡ 0 → (bytes : List ℕ) → left ≡ Some bytes → SaysYes bytes tb tn)
-Runs (Relax pivots) left rb rn tb tn wb wn status =
+Runs options_of (Relax pivots) left rb rn tb tn wb wn status =
     IsRun (relaxing.Says pivots) left rb rn tb tn wb wn status
     × (status ≡ 0 → (bytes : List ℕ) → left ≡ Some bytes → relaxing.SaysVerdict bytes tb tn)
     × ((bytes : List ℕ) → left ≡ Some bytes → (a : Instance) → SpellsAlone bytes a → relaxing.AreEnough a pivots → status ≡ 8 → ⊥)
-Runs (Solve settings) left rb rn tb tn wb wn status =
+Runs options_of (Solve settings) left rb rn tb tn wb wn status =
     IsRun (solving.Says (options_of settings) settings.brief) left rb rn tb tn wb wn status
     × (status ≡ 0 → (bytes : List ℕ) → left ≡ Some bytes → solving.SaysVerdict bytes (options_of settings) settings.brief tb tn)
     × ((bytes : List ℕ) → left ≡ Some bytes → (a : Instance) → SpellsAlone bytes a → solving.AreEnough a (options_of settings) → status ≡ 8 → ⊥)
-Runs (Generate draft) left rb rn tb tn wb wn status =
+Runs options_of (Generate draft) left rb rn tb tn wb wn status =
     (draft.solve ≡ false → IsGenerated (sizes_of draft) tb tn wb wn status)
     × (draft.solve ≡ true → IsGeneratedAndSolved usual (sizes_of draft) tb tn wb wn status)

@@ -1,20 +1,22 @@
-//! The top call: words, a source and a sink.
-ghost use Rattle.std.specs.Prelude.{◌≡◌, ◌↔◌, ℕ, IsTrue, List, MatchOption, Option, map, string_bytes};
+//! The top calls: words, a source and a sink.
+ghost use Rattle.std.specs.Prelude.{◌≡◌, ◌↔◌, ◌≤◌, ◌⊎◌, ℕ, IfErr, IfOk, IsTrue, List, MatchOption, OnErr, OnOk, Option, drop, map, string_bytes};
 ghost use Rattle.command.specs.Answers.{IsWritten};
 ghost use Rattle.deck_gen.specs.Generator.{IsInRange};
-ghost use Rattle.lpcc.specs.Commands.{IsCommand, IsPossible, Runs, options_of, usual, words_refused};
+ghost use Rattle.lpcc.specs.Answers.{Answers, IsUnread, words_refused};
+ghost use Rattle.lpcc.specs.Commands.{IsCommand, IsNoCommand, IsPossible, ReadsNothing, Runs, as_asked, by_one_worker, usual};
 ghost use Rattle.words.specs.declared.command.Command.{Command as Request};
 ghost use Rattle.words.specs.declared.command.Command.TheVariants.{Generate};
 ghost use Rattle.words.specs.declared.command.Draft.{Draft as Plan};
 
-use command::{Status, give};
+use command::{Status, give, give_no_memory};
 use deck_gen::in_range;
 use generating::{generate, generate_and_solve};
 use lp_io::{Sink, Source};
 use play::{Options, ShrinkMode, Workers};
 use relaxing::relax;
 use solving::run_solve;
-use std::alloc::Global;
+use std::alloc::{AllocError, Global};
+use std::io;
 use verifier::{a_status_tells_the_answer, verify};
 use words::{Command, Draft, Settings, USUAL_PIECES, USUAL_PIVOTS, command_of};
 
@@ -31,24 +33,25 @@ fn is_possible(command: Command) -> bool
 }
 
 // The command that the words are.
-fn command_in(words: &[String]) -> Option<Command>
-    ensures { MatchOption result ((c : Request) → IsCommand (map string_bytes words.now) c → ⊥)
-        (λ c. IsCommand (map string_bytes words.now) c) }
+fn command_in(alloc: Global, words: &[String]) -> Result<Option<Command>, AllocError>
+    ensures { IfOk result (λ found. MatchOption found (IsNoCommand (map string_bytes words.now))
+        (λ c. IsCommand (map string_bytes words.now) c)) }
 {
-    match command_of(words) {
-        None => None,
+    match command_of(alloc, words)? {
+        None => Ok(None),
         Some(command) => {
             if is_possible(command) {
-                Some(command)
+                Ok(Some(command))
             } else {
-                None
+                Ok(None)
             }
         }
     }
 }
 
+// The options with one worker.
 fn options_of(settings: Settings) -> Options
-    ensures { result ≡ options_of settings }
+    ensures { result ≡ by_one_worker settings }
 {
     Options {
         workers: Workers::one(),
@@ -74,7 +77,7 @@ fn usual() -> Options
 }
 
 /// Writes that the words are no command. It takes no memory.
-pub fn refuse_words<K: Sink>(out: &mut K) -> Status
+fn refuse_words<K: Sink>(out: &mut K) -> Status
     ensures { IsWritten (K.taken out.old) (K.taken out.new) (K.faults out.old) (K.faults out.new) words_refused NO_COMMAND result }
 {
     give(b"words: not a command of lpcc\n", NO_COMMAND, out)
@@ -82,7 +85,7 @@ pub fn refuse_words<K: Sink>(out: &mut K) -> Status
 
 fn run_draft<K: Sink>(alloc: Global, draft: Draft, out: &mut K) -> Status
     requires { IsInRange draft.columns draft.rows draft.pairs }
-    ensures { (left : Option (List ℕ)) (rb rn : ℕ) → Runs (Generate draft) left rb rn (K.taken out.old) (K.taken out.new) (K.faults out.old) (K.faults out.new) result }
+    ensures { (left : Option (List ℕ)) (rb rn : ℕ) → Runs by_one_worker (Generate draft) left rb rn (K.taken out.old) (K.taken out.new) (K.faults out.old) (K.faults out.new) result }
 {
     let columns = draft.columns as u32;
     let rows = draft.rows as u32;
@@ -101,7 +104,7 @@ fn run_command<S: Source, K: Sink>(
     out: &mut K,
 ) -> Status
     requires { IsPossible command }
-    ensures answered { Runs command (S.left src.old) (S.faults src.old) (S.faults src.new)
+    ensures answered { Runs by_one_worker command (S.left src.old) (S.faults src.old) (S.faults src.new)
         (K.taken out.old) (K.taken out.new) (K.faults out.old) (K.faults out.new) result }
     ensures untouched { (d : Plan) → command ≡ Generate d → src.new ≡ src.old }
 {
@@ -124,23 +127,62 @@ pub fn run_alone<S: Source, K: Sink>(
     src: &mut S,
     out: &mut K,
 ) -> Status
-    // The words are refused exactly where they are no command, and then nothing is read.
-    ensures words { ((c : Request) → IsCommand (map string_bytes words.now) c → ⊥) →
-        IsWritten (K.taken out.old) (K.taken out.new) (K.faults out.old) (K.faults out.new) words_refused NO_COMMAND result }
-    ensures words_only { result ≡ NO_COMMAND → (c : Request) → IsCommand (map string_bytes words.now) c → ⊥ }
-    ensures untouched { ((c : Request) → IsCommand (map string_bytes words.now) c → ⊥) → src.new ≡ src.old }
-
-    // To a command the right answer is written, and status 0 says what is so.
-    ensures answered { (c : Request) → IsCommand (map string_bytes words.now) c →
-        Runs c (S.left src.old) (S.faults src.old) (S.faults src.new)
+    // The words are refused exactly where they are no command. To a command the right answer is
+    // written, and status 0 says what is so.
+    ensures answers { Answers by_one_worker (map string_bytes words.now) (S.left src.old) (S.faults src.old) (S.faults src.new)
         (K.taken out.old) (K.taken out.new) (K.faults out.old) (K.faults out.new) result }
 
-    // A deck is made without reading.
-    ensures reads_nothing { (d : Plan) → IsCommand (map string_bytes words.now) (Generate d) → src.new ≡ src.old }
+    // Nothing is read where the words are no command, and where a deck is made.
+    ensures reads_nothing { ReadsNothing (map string_bytes words.now) → src.new ≡ src.old }
 {
     a_status_tells_the_answer();
-    match command_in(words) {
-        Some(command) => run_command(alloc, command, src, out),
-        None => refuse_words(out),
+    match command_in(alloc, words) {
+        Ok(Some(command)) => run_command(alloc, command, src, out),
+        Ok(None) => refuse_words(out),
+        Err(_) => give_no_memory(out),
+    }
+}
+
+// Runs the program on the words behind the first, which is its name.
+fn run_behind_name<S: Source, K: Sink>(
+    alloc: Global,
+    called: &[String],
+    src: &mut S,
+    out: &mut K,
+) -> Status
+    ensures answers { Answers by_one_worker (drop 1 (map string_bytes called.now)) (S.left src.old) (S.faults src.old) (S.faults src.new)
+        (K.taken out.old) (K.taken out.new) (K.faults out.old) (K.faults out.new) result }
+    ensures reads_nothing { ReadsNothing (drop 1 (map string_bytes called.now)) → src.new ≡ src.old }
+{
+    match called {
+        [] => run_alone(alloc, &[], src, out),
+        [_, words @ ..] => run_alone(alloc, words, src, out),
+    }
+}
+
+/// Runs the program on the words that it was called with, its name first, as `run_alone` does.
+pub fn run_called<S: Source, K: Sink>(
+    alloc: Global,
+    called: io::Result<Vec<String>>,
+    src: &mut S,
+    out: &mut K,
+) -> Status
+    ensures answers { IfOk called (λ words. Answers by_one_worker (drop 1 (map string_bytes words.items)) (S.left src.old) (S.faults src.old) (S.faults src.new)
+        (K.taken out.old) (K.taken out.new) (K.faults out.old) (K.faults out.new) result) }
+    ensures reads_nothing { IfOk called (λ words. ReadsNothing (drop 1 (map string_bytes words.items)) → src.new ≡ src.old) }
+
+    // Where the words cannot be had, since one is no text or for want of memory, that is answered.
+    ensures unread { OnErr called (IsUnread (K.taken out.old) (K.taken out.new) (K.faults out.old) (K.faults out.new) result) }
+    ensures untouched { OnErr called (src.new ≡ src.old) }
+{
+    match called {
+        Ok(words) => run_behind_name(alloc, words.as_slice(), src, out),
+        Err(fault) => {
+            if fault.kind() == io::ErrorKind::OutOfMemory {
+                give_no_memory(out)
+            } else {
+                refuse_words(out)
+            }
+        }
     }
 }

@@ -1,19 +1,19 @@
-//! The top call: words, a source and a sink.
-ghost use Rattle.std.specs.Prelude.{◌≡◌, ℕ, List, [], Some};
+//! The top calls: words, a source and a sink.
+ghost use Rattle.std.specs.Prelude.{◌≡◌, [], IfOk, OnErr, drop};
 ghost use Rattle.command.specs.Answers.{IsWritten};
-ghost use Rattle.verifier.specs.Runs.{IsChecked, SaysYes};
-ghost use Rattle.lpccheck.specs.Commands.{words_refused};
+ghost use Rattle.lpccheck.specs.Commands.{Answers, IsUnread, words_refused};
 
-use command::{Status, give};
+use command::{Status, give, give_no_memory};
 use lp_io::{Sink, Source};
 use std::alloc::Global;
+use std::io;
 use verifier::{a_status_tells_the_answer, verify};
 
 /// The status where there are words.
 const WORDS_REFUSED: Status = 2;
 
 /// Writes that the program takes no words. It takes no memory.
-pub fn refuse_words<K: Sink>(out: &mut K) -> Status
+fn refuse_words<K: Sink>(out: &mut K) -> Status
     ensures { IsWritten (K.taken out.old) (K.taken out.new) (K.faults out.old) (K.faults out.new) words_refused WORDS_REFUSED result }
 {
     give(b"words: lpccheck takes no words\n", WORDS_REFUSED, out)
@@ -27,26 +27,47 @@ pub fn run_check<S: Source, K: Sink>(
     src: &mut S,
     out: &mut K,
 ) -> Status
-    // Words are refused, and then nothing is read.
-    ensures words { (words.now ≡ [] → ⊥) →
-        IsWritten (K.taken out.old) (K.taken out.new) (K.faults out.old) (K.faults out.new) words_refused WORDS_REFUSED result }
-    ensures words_only { result ≡ WORDS_REFUSED → words.now ≡ [] → ⊥ }
-    ensures untouched { (words.now ≡ [] → ⊥) → src.new ≡ src.old }
-
-    // Without words one answer is right, and it is written.
-    ensures answered { words.now ≡ [] →
-        IsChecked (S.left src.old) (S.faults src.old) (S.faults src.new)
+    // Words are refused. Without words one answer is right, and it is written; status 0 is `yes`.
+    ensures answers { Answers words.now (S.left src.old) (S.faults src.old) (S.faults src.new)
         (K.taken out.old) (K.taken out.new) (K.faults out.old) (K.faults out.new) result }
 
-    // Status 0 is `yes`: a certificate is accepted with a verdict, which is true of the deck and
-    // is written.
-    ensures yes { result ≡ 0 → (bytes : List ℕ) → S.left src.old ≡ Some bytes →
-        SaysYes bytes (K.taken out.old) (K.taken out.new) }
+    // Where there are words, nothing is read.
+    ensures untouched { (words.now ≡ [] → ⊥) → src.new ≡ src.old }
 {
     a_status_tells_the_answer();
     if words.is_empty() {
         verify(alloc, src, out)
     } else {
         refuse_words(out)
+    }
+}
+
+/// Runs the program on the words that it was called with, its name first, as `run_check` does.
+pub fn run_called<S: Source, K: Sink>(
+    alloc: Global,
+    called: io::Result<Vec<String>>,
+    src: &mut S,
+    out: &mut K,
+) -> Status
+    ensures answers { IfOk called (λ words. Answers (drop 1 words.items) (S.left src.old) (S.faults src.old) (S.faults src.new)
+        (K.taken out.old) (K.taken out.new) (K.faults out.old) (K.faults out.new) result) }
+    ensures untouched { IfOk called (λ words. (drop 1 words.items ≡ [] → ⊥) → src.new ≡ src.old) }
+
+    // Where the words cannot be had, since one is no text or for want of memory, that is answered.
+    ensures unread { OnErr called (IsUnread (K.taken out.old) (K.taken out.new) (K.faults out.old) (K.faults out.new) result) }
+    ensures unread_untouched { OnErr called (src.new ≡ src.old) }
+{
+    match called {
+        Ok(words) => match words.as_slice() {
+            [] => run_check(alloc, &[], src, out),
+            [_, words @ ..] => run_check(alloc, words, src, out),
+        },
+        Err(fault) => {
+            if fault.kind() == io::ErrorKind::OutOfMemory {
+                give_no_memory(out)
+            } else {
+                refuse_words(out)
+            }
+        }
     }
 }

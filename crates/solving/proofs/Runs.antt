@@ -19,7 +19,7 @@ use Rattle.play.specs.declared.ending.Ending.{Ending}
 use Rattle.play.specs.declared.ending.Ending.TheVariants as ending
 use Rattle.play.specs.declared.event.Options.{Options}
 use Rattle.desk_part.specs.DeskParts.{IsEndingOfRecord}
-use Rattle.engine.specs.Solved.{IsShown, IsSolved, PiecesLast, PivotsLast, VerdictsAreShown, alone}
+use Rattle.engine.specs.Solved.{IsShown, IsSolved, PiecesLast, PivotsLast, VerdictsAreShown}
 use Rattle.command.specs.Inputs.{IsReadAlone, IsTrueOfBytes, SpellsAlone}
 use Rattle.command.specs.Runs.{IsRun}
 use Rattle.command.specs.declared.reading.TheConstants.{MOST_DECK_BYTES}
@@ -76,7 +76,7 @@ true_of_bytes l bytes a v spelled truth =
       is_true = (l.same_truth s.deck a v (l.decks_keep bytes s.deck s.place s.spelled) s.case).0 truth;
     }
 
-verdict_said : Laws → (bytes : List ℕ) (o : Options) (brief : Bool) (tb tn : Option (List ℕ)) (a : Instance) (cert : Cert) (drawn : ℕ) (text : List ℕ) → SpellsAlone bytes a → IsShown a (alone o) cert drawn → length (lines_of cert) < 2 ^ 64 → IsTextOf a brief (ending.Verdict cert drawn) text → Appends tb tn text → SaysVerdict bytes o brief tb tn
+verdict_said : Laws → (bytes : List ℕ) (o : Options) (brief : Bool) (tb tn : Option (List ℕ)) (a : Instance) (cert : Cert) (drawn : ℕ) (text : List ℕ) → SpellsAlone bytes a → IsShown a o cert drawn → length (lines_of cert) < 2 ^ 64 → IsTextOf a brief (ending.Verdict cert drawn) text → Appends tb tn text → SaysVerdict bytes o brief tb tn
 verdict_said l bytes o brief tb tn a cert drawn text spelled shown few text_is written =
     let v = text_is.0 in
     record {

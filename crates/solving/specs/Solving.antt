@@ -15,7 +15,7 @@ use Rattle.play.specs.declared.ending.Ending.TheVariants as ending
 use Rattle.play.specs.declared.event.Event.{Event}
 use Rattle.play.specs.declared.event.Options.{Options}
 use Rattle.desk_part.specs.DeskParts.{IsEndingOf, IsEndingOfRecord}
-use Rattle.engine.specs.Solved.{PiecesLast, PivotsLast, VerdictsAreShown, alone}
+use Rattle.engine.specs.Solved.{PiecesLast, PivotsLast, VerdictsAreShown}
 use Rattle.report.specs.Endings.{IsTextOf, status_of, verdict_text}
 use Rattle.command.specs.Inputs.{IsTrueOfBytes, SpellsAlone}
 
@@ -27,11 +27,11 @@ HasFewLines (ending.PivotsSpent piece at) = ⊤
 HasFewLines (ending.PiecesSpent drawn left) = ⊤
 HasFewLines ending.NoMemory = ⊤
 
--- the text and the status of the ending of a record with one worker
+-- the text and the status of the ending of a record
 pub record Says (o : Options) (brief : Bool) (a : Instance) (text : List ℕ) (status : ℕ) : Type 0 where
   pub end : Ending
-  pub of_record : IsEndingOfRecord a (alone o) end
-  pub shown : VerdictsAreShown a (alone o) end
+  pub of_record : IsEndingOfRecord a o end
+  pub shown : VerdictsAreShown a o end
   pub pieces : PiecesLast a o end
   pub pivots : PivotsLast a o end
   pub few : HasFewLines end
@@ -52,7 +52,7 @@ pub record SaysVerdict (bytes : List ℕ) (o : Options) (brief : Bool) (taken_be
   pub certificate : certificate_texts.Spells (verdict_text verdict drawn false cert) cert
   pub written : Appends taken_before taken_now (verdict_text verdict drawn brief cert)
   pub events : List Event
-  pub ending : IsEndingOf a (alone o) events (ending.Verdict cert drawn)
+  pub ending : IsEndingOf a o events (ending.Verdict cert drawn)
   pub number : drawn ≡ length (drawn_in events)
   pub distinct : AreDistinct (drawn_in events)
 

@@ -19,7 +19,7 @@ use decks::spelled_decks_keep;
 use engine::solve_alone;
 use lp_io::{Sink, Source};
 use lpcc_case::Case;
-use play::{Ending, Options};
+use play::{Ending, Options, Workers};
 use report::{status_of, text_of};
 use std::alloc::Global;
 
@@ -49,9 +49,9 @@ fn give_ending<K: Sink>(
     ending: &Ending,
     out: &mut K,
 ) -> Status
-    requires ended { IsSolved case.now (alone options.now) ending.now }
+    requires ended { IsSolved case.now options.now ending.now }
     requires some { ending.now ≢ ways.NoMemory }
-    requires shown { VerdictsAreShown case.now (alone options.now) ending.now }
+    requires shown { VerdictsAreShown case.now options.now ending.now }
     requires pieces { PiecesLast case.now options.now ending.now }
     requires pivots { PivotsLast case.now options.now ending.now }
     requires form { CanBeWritten ending.now }
@@ -72,22 +72,51 @@ fn is_short(ending: &Ending) -> bool
     matches!(ending, Ending::NoMemory)
 }
 
-// Solves the case, and writes how that ends.
+// Writes how a run over the case with these options ended, be it for want of memory.
 fn give_solution<K: Sink>(
+    alloc: Global,
+    case: &Case,
+    options: &Options,
+    brief: bool,
+    ending: &Ending,
+    out: &mut K,
+) -> Status
+    requires ended { IsSolved case.now options.now ending.now }
+    requires shown { VerdictsAreShown case.now options.now ending.now }
+    requires pieces { PiecesLast case.now options.now ending.now }
+    requires pivots { PivotsLast case.now options.now ending.now }
+    ensures { IsWrittenFor (Says options.now brief) (Ok case.now) (K.taken out.old) (K.taken out.new) (K.faults out.old) (K.faults out.new) result
+        ⊎ IsWrittenFor (Says options.now brief) (Err refusal.NoMemory) (K.taken out.old) (K.taken out.new) (K.faults out.old) (K.faults out.new) result }
+{
+    if is_short(ending) {
+        return give_no_memory(out);
+    }
+    give_ending(alloc, case, options, brief, ending, out)
+}
+
+// The same options for one worker.
+fn alone(options: &Options) -> Options
+    ensures { result ≡ alone options.now }
+{
+    Options {
+        workers: Workers::one(),
+        ..*options
+    }
+}
+
+// Solves the case with one worker, and writes how that ends.
+fn solve_case<K: Sink>(
     alloc: Global,
     case: &Case,
     options: &Options,
     brief: bool,
     out: &mut K,
 ) -> Status
-    ensures { IsWrittenFor (Says options.now brief) (Ok case.now) (K.taken out.old) (K.taken out.new) (K.faults out.old) (K.faults out.new) result
-        ⊎ IsWrittenFor (Says options.now brief) (Err refusal.NoMemory) (K.taken out.old) (K.taken out.new) (K.faults out.old) (K.faults out.new) result }
+    ensures { IsWrittenFor (Says (alone options.now) brief) (Ok case.now) (K.taken out.old) (K.taken out.new) (K.faults out.old) (K.faults out.new) result
+        ⊎ IsWrittenFor (Says (alone options.now) brief) (Err refusal.NoMemory) (K.taken out.old) (K.taken out.new) (K.faults out.old) (K.faults out.new) result }
 {
     let ending = solve_alone(alloc, case, options);
-    if is_short(&ending) {
-        return give_no_memory(out);
-    }
-    give_ending(alloc, case, options, brief, &ending, out)
+    give_solution(alloc, case, &alone(options), brief, &ending, out)
 }
 
 /// Reads a deck alone, solves it with one worker, and writes the verdict with its certificate, or
@@ -102,12 +131,12 @@ pub fn run_solve<S: Source, K: Sink>(
 ) -> Status
     // The deck is refused exactly for its cause, or a record of a run over its case has this ending;
     // that is written.
-    ensures answered { IsRun (Says options.now brief) (S.left src.old) (S.faults src.old) (S.faults src.new)
+    ensures answered { IsRun (Says (alone options.now) brief) (S.left src.old) (S.faults src.old) (S.faults src.new)
         (K.taken out.old) (K.taken out.new) (K.faults out.old) (K.faults out.new) result }
 
     // Status 0 is a verdict that is true of the deck, with a certificate that is accepted for it.
     ensures verdict { result ≡ 0 → (bytes : List ℕ) → S.left src.old ≡ Some bytes →
-        SaysVerdict bytes options.now brief (K.taken out.old) (K.taken out.new) }
+        SaysVerdict bytes (alone options.now) brief (K.taken out.old) (K.taken out.new) }
 
     // With as many draws as there are pieces, and as many pivots as there are choices of the columns,
     // no budget is spent.
@@ -118,7 +147,7 @@ pub fn run_solve<S: Source, K: Sink>(
     spelled_decks_keep();
     verdicts_are_those_of_the_deck();
     match read_case(alloc, src, MOST_DECK_BYTES) {
-        Ok(case) => give_solution(alloc, &case, options, brief, out),
+        Ok(case) => solve_case(alloc, &case, options, brief, out),
         Err(refusal) => give_refusal(alloc, refusal, out),
     }
 }

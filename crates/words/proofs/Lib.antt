@@ -1,2 +1,3 @@
-pub mod Values
-pub mod Steps
+mod Values
+mod RowLemmas
+mod Parses

@@ -1,71 +1,123 @@
 -- The commands that words are.
-use Rattle.std.specs.Prelude.{if◌then◌else◌, ℕ, Bool, true, false, List, [], ◌∷◌, Option, None, Some, option_map, unwrap_or, codes}
+use Rattle.std.specs.Prelude.{if◌then◌else◌, ◌||◌, ℕ, Bool, true, false, List, [], ◌∷◌, Option, None, Some, codes, find, option_and_then, option_map, unwrap_or}
 use Rattle.std.specs.Str.{bytes_eq}
+use Rattle.clap.specs.Words.{Kinds, Row, Text, all_of, fault_of, first_of, matches_of}
+use Rattle.clap.specs.declared.parser.ValueSource.{ValueSource}
+use Rattle.clap.specs.declared.parser.ValueSource.TheVariants.{CommandLine, DefaultValue}
 use Rattle.words.specs.declared.command.Command.{Command}
 use Rattle.words.specs.declared.command.Command.TheVariants.{Check, Generate, Relax, Solve}
 use Rattle.words.specs.declared.command.Draft.{Draft}
 use Rattle.words.specs.declared.command.Settings.{Settings}
-use Rattle.words.specs.declared.command.TheConstants.{USUAL_PIECES, USUAL_PIVOTS}
+use Rattle.words.specs.declared.command.TheConstants.{MOST_WORKERS, USUAL_PIECES, USUAL_PIVOTS}
 use Rattle.words.specs.declared.numbers.TheConstants.{MOST}
-use Rattle.words.specs.declared.options.Given.{Given}
+use Rattle.words.specs.Command.{lpcc_command}
 use Rattle.words.specs.Numbers.{number_in}
-use Rattle.words.specs.Options.{and_then, given_from, nothing}
 
--- ---- relax
+-- ---- what a parse of the words gives, argument by argument
 
-abbrev pub relax_of : List (List ℕ) → Option Command
-relax_of [] = Some (Relax USUAL_PIVOTS)
-relax_of (name ∷ value ∷ []) = if bytes_eq name (codes "--pivots") then option_map Relax (number_in 1 MOST value) else None
-relax_of (name ∷ []) = None
-relax_of (name ∷ value ∷ w ∷ ws) = None
+abbrev pub is_of_words : Option ValueSource → Bool
+is_of_words None = false
+is_of_words (Some DefaultValue) = false
+is_of_words (Some CommandLine) = true
 
--- ---- gen
+abbrev pub source_of : Text → List Row → Option ValueSource
+source_of id rows = option_and_then (λ r. r.source) (find (λ r. bytes_eq r.id id) rows)
+
+-- the argument stands among the words
+abbrev pub stands : Text → List Row → Bool
+stands id rows = is_of_words (source_of id rows)
+
+abbrev pub numbers_of : List Row → List Text
+numbers_of rows = unwrap_or (all_of (codes "numbers") rows) []
+
+-- a number from 1 to the most, or the usual one where there is no text
+abbrev pub number_or : ℕ → ℕ → Option Text → Option ℕ
+number_or usual most None = Some usual
+number_or usual most (Some w) = number_in 1 most w
+
+-- `full`, as is usual, or `none`
+abbrev pub is_full : Option Text → Option Bool
+is_full None = Some true
+is_full (Some w) = if bytes_eq w (codes "full") then Some true else if bytes_eq w (codes "none") then Some false else None
+
+-- ---- which arguments stand that a command does not take
+
+abbrev pub is_beyond_solve : List Row → Bool
+is_beyond_solve rows = stands (codes "numbers") rows || stands (codes "solve") rows
+
+abbrev pub is_beyond_relax : List Row → Bool
+is_beyond_relax rows = is_beyond_solve rows || stands (codes "workers") rows || stands (codes "pieces") rows || stands (codes "shrink") rows || stands (codes "brief") rows
+
+abbrev pub is_beyond_check : List Row → Bool
+is_beyond_check rows = is_beyond_relax rows || stands (codes "pivots") rows
+
+abbrev pub is_beyond_gen : List Row → Bool
+is_beyond_gen rows = stands (codes "workers") rows || stands (codes "pieces") rows || stands (codes "pivots") rows || stands (codes "shrink") rows || stands (codes "brief") rows
+
+-- ---- the commands
+
+abbrev pub settings : ℕ → ℕ → ℕ → Bool → Bool → Settings
+settings workers pieces pivots full brief = record { workers = workers; pieces = pieces; pivots = pivots; full = full; brief = brief }
 
 abbrev pub draft : Bool → ℕ → ℕ → ℕ → ℕ → Draft
 draft solve seed columns rows pairs = record { seed = seed; columns = columns; rows = rows; pairs = pairs; solve = solve }
 
-abbrev pub draft_of : Bool → List ℕ → List ℕ → List ℕ → List ℕ → Option Command
-draft_of solve s c r p =
-    and_then (number_in 0 MOST s) (λ seed.
-    and_then (number_in 0 MOST c) (λ columns.
-    and_then (number_in 0 MOST r) (λ rows.
-    option_map (λ pairs. Generate (draft solve seed columns rows pairs)) (number_in 0 MOST p))))
+abbrev pub check_of : List Row → Option Command
+check_of rows = if is_beyond_check rows then None else Some Check
 
-abbrev pub gen_of : List (List ℕ) → Option Command
-gen_of (s ∷ c ∷ r ∷ p ∷ []) = draft_of false s c r p
-gen_of (s ∷ c ∷ r ∷ p ∷ w ∷ []) = if bytes_eq w (codes "--solve") then draft_of true s c r p else None
-gen_of [] = None
-gen_of (s ∷ []) = None
-gen_of (s ∷ c ∷ []) = None
-gen_of (s ∷ c ∷ r ∷ []) = None
-gen_of (s ∷ c ∷ r ∷ p ∷ w ∷ v ∷ ws) = None
+abbrev pub relax_of : List Row → Option Command
+relax_of rows = if is_beyond_relax rows then None else option_map Relax (number_or USUAL_PIVOTS MOST (first_of (codes "pivots") rows))
 
--- ---- solve
+abbrev pub settings_of : List Row → Option Settings
+settings_of rows =
+    option_and_then (λ workers.
+    option_and_then (λ pieces.
+    option_and_then (λ pivots.
+    option_map (λ full. settings workers pieces pivots full (stands (codes "brief") rows))
+    (is_full (first_of (codes "shrink") rows)))
+    (number_or USUAL_PIVOTS MOST (first_of (codes "pivots") rows)))
+    (number_or USUAL_PIECES MOST (first_of (codes "pieces") rows)))
+    (number_or 1 MOST_WORKERS (first_of (codes "workers") rows))
 
--- what is not given is as usual
-abbrev pub settings_of : Given → Settings
-settings_of g = record {
-  workers = unwrap_or g.workers 1;
-  pieces = unwrap_or g.pieces USUAL_PIECES;
-  pivots = unwrap_or g.pivots USUAL_PIVOTS;
-  full = unwrap_or g.full true;
-  brief = g.brief;
-}
+abbrev pub solve_of : List Row → Option Command
+solve_of rows = if is_beyond_solve rows then None else option_map Solve (settings_of rows)
 
-abbrev pub solve_of : List (List ℕ) → Option Command
-solve_of ws = option_map (λ g. Solve (settings_of g)) (given_from ws nothing)
+abbrev pub draft_of : Bool → List Text → Option Draft
+draft_of solve (s ∷ c ∷ r ∷ p ∷ []) =
+    option_and_then (λ seed.
+    option_and_then (λ columns.
+    option_and_then (λ lines.
+    option_map (λ pairs. draft solve seed columns lines pairs)
+    (number_in 0 MOST p))
+    (number_in 0 MOST r))
+    (number_in 0 MOST c))
+    (number_in 0 MOST s)
+draft_of solve [] = None
+draft_of solve (s ∷ []) = None
+draft_of solve (s ∷ c ∷ []) = None
+draft_of solve (s ∷ c ∷ r ∷ []) = None
+draft_of solve (s ∷ c ∷ r ∷ p ∷ w ∷ ws) = None
 
--- ---- the first word
+abbrev pub gen_of : List Row → Option Command
+gen_of rows = if is_beyond_gen rows then None else option_map Generate (draft_of (stands (codes "solve") rows) (numbers_of rows))
 
-abbrev pub check_of : List (List ℕ) → Option Command
-check_of [] = Some Check
-check_of (w ∷ ws) = None
-
-abbrev pub command_of : List (List ℕ) → Option Command
-command_of [] = None
-command_of (w ∷ ws) =
-    if bytes_eq w (codes "check") then check_of ws
-    else if bytes_eq w (codes "relax") then relax_of ws
-    else if bytes_eq w (codes "gen") then gen_of ws
-    else if bytes_eq w (codes "solve") then solve_of ws
+abbrev pub command_named : Text → List Row → Option Command
+command_named w rows =
+    if bytes_eq w (codes "check") then check_of rows
+    else if bytes_eq w (codes "relax") then relax_of rows
+    else if bytes_eq w (codes "gen") then gen_of rows
+    else if bytes_eq w (codes "solve") then solve_of rows
     else None
+
+abbrev pub command_in : List Row → Option Command
+command_in rows = command_named (unwrap_or (first_of (codes "command") rows) []) rows
+
+-- no kind of error
+abbrev pub if_none : {A : Type 0} → Kinds → Option A → Option A
+if_none [] found = found
+if_none (kind ∷ kinds) found = None
+
+-- the words, those behind the program's name, are a command where the rules of `lpcc_command` take them and what they give
+-- is one
+abbrev pub command_of : List Text → Option Command
+command_of words = if_none (fault_of lpcc_command words) (command_in (matches_of lpcc_command words))

@@ -1,9 +1,14 @@
 //! The commands.
-ghost use Rattle.std.specs.Prelude.{◌≡◌, map, string_bytes};
-ghost use Rattle.words.specs.Commands.{check_of, command_of, draft_of, gen_of, relax_of, settings_of, solve_of};
+ghost use Rattle.std.specs.Prelude.{◌≡◌, ◌≤◌, map, option_map};
+ghost use Rattle.clap.specs.Words.{first_of, found_of, rows_of};
+ghost use Rattle.words.specs.Commands.{check_of, command_in, command_named, draft_of, gen_of, is_beyond_check, is_beyond_gen, is_beyond_relax, is_beyond_solve, is_full, is_of_words, number_or, numbers_of, relax_of, settings_of, solve_of, source_of, stands};
 
 use crate::numbers::{MOST, number_in};
-use crate::options::{Given, given_from, nothing};
+use clap::ArgMatches;
+use clap::parser::ValueSource;
+
+/// How many workers there may be.
+pub const MOST_WORKERS: u64 = 64;
 
 /// How many pieces may be drawn, where no number is given.
 pub const USUAL_PIECES: u64 = 50_000;
@@ -50,98 +55,197 @@ pub enum Command {
     Generate(Draft),
 }
 
-fn relax_of(words: &[String]) -> Option<Command>
-    ensures { result ≡ relax_of (map string_bytes words.now) }
+fn source_of(matches: &ArgMatches, id: &str) -> Option<ValueSource>
+    ensures { result ≡ source_of id.now (rows_of (found_of matches.now)) }
 {
-    match words {
-        [] => Some(Command::Relax(USUAL_PIVOTS)),
-        [name, value] => {
-            if name.as_str() == "--pivots" {
-                Some(Command::Relax(number_in(1, MOST, value.as_str())?))
-            } else {
-                None
-            }
-        }
-        _ => None,
+    matches.value_source(id)
+}
+
+fn is_of_words(source: Option<ValueSource>) -> bool
+    ensures { result ≡ is_of_words source }
+{
+    match source {
+        Some(ValueSource::CommandLine) => true,
+        Some(ValueSource::DefaultValue) => false,
+        None => false,
     }
 }
 
-fn draft_of(solve: bool, s: &str, c: &str, r: &str, p: &str) -> Option<Command>
-    ensures { result ≡ draft_of solve s.now c.now r.now p.now }
+/// Whether the argument stands among the words.
+fn stands(matches: &ArgMatches, id: &str) -> bool
+    ensures { result ≡ stands id.now (rows_of (found_of matches.now)) }
 {
-    let seed = number_in(0, MOST, s)?;
-    let columns = number_in(0, MOST, c)?;
-    let rows = number_in(0, MOST, r)?;
-    let pairs = number_in(0, MOST, p)?;
-    Some(Command::Generate(Draft {
+    is_of_words(source_of(matches, id))
+}
+
+fn text_of<'a>(matches: &ArgMatches<'a>, id: &str) -> Option<&'a str>
+    ensures { option_map (λ s. s.now) result ≡ first_of id.now (rows_of (found_of matches.now)) }
+{
+    matches.get_str(id)
+}
+
+fn number_or(usual: u64, most: u64, text: Option<&str>) -> Option<u64>
+    requires { most ≤ MOST }
+    ensures { result ≡ number_or usual most (option_map (λ s. s.now) text.entry) }
+{
+    match text {
+        None => Some(usual),
+        Some(text) => number_in(1, most, text),
+    }
+}
+
+fn is_full(text: Option<&str>) -> Option<bool>
+    ensures { result ≡ is_full (option_map (λ s. s.now) text.entry) }
+{
+    let Some(text) = text else {
+        return Some(true);
+    };
+    if text == "full" {
+        Some(true)
+    } else if text == "none" {
+        Some(false)
+    } else {
+        None
+    }
+}
+
+fn is_beyond_solve(matches: &ArgMatches) -> bool
+    ensures { result ≡ is_beyond_solve (rows_of (found_of matches.now)) }
+{
+    stands(matches, "numbers") || stands(matches, "solve")
+}
+
+fn is_beyond_relax(matches: &ArgMatches) -> bool
+    ensures { result ≡ is_beyond_relax (rows_of (found_of matches.now)) }
+{
+    is_beyond_solve(matches)
+        || stands(matches, "workers")
+        || stands(matches, "pieces")
+        || stands(matches, "shrink")
+        || stands(matches, "brief")
+}
+
+fn is_beyond_check(matches: &ArgMatches) -> bool
+    ensures { result ≡ is_beyond_check (rows_of (found_of matches.now)) }
+{
+    is_beyond_relax(matches) || stands(matches, "pivots")
+}
+
+fn is_beyond_gen(matches: &ArgMatches) -> bool
+    ensures { result ≡ is_beyond_gen (rows_of (found_of matches.now)) }
+{
+    stands(matches, "workers")
+        || stands(matches, "pieces")
+        || stands(matches, "pivots")
+        || stands(matches, "shrink")
+        || stands(matches, "brief")
+}
+
+fn check_of(matches: &ArgMatches) -> Option<Command>
+    ensures { result ≡ check_of (rows_of (found_of matches.now)) }
+{
+    if is_beyond_check(matches) {
+        None
+    } else {
+        Some(Command::Check)
+    }
+}
+
+fn relax_of(matches: &ArgMatches) -> Option<Command>
+    ensures { result ≡ relax_of (rows_of (found_of matches.now)) }
+{
+    if is_beyond_relax(matches) {
+        return None;
+    }
+    let pivots = number_or(USUAL_PIVOTS, MOST, text_of(matches, "pivots"))?;
+    Some(Command::Relax(pivots))
+}
+
+fn settings_of(matches: &ArgMatches) -> Option<Settings>
+    ensures { result ≡ settings_of (rows_of (found_of matches.now)) }
+{
+    let workers = number_or(1, MOST_WORKERS, text_of(matches, "workers"))?;
+    let pieces = number_or(USUAL_PIECES, MOST, text_of(matches, "pieces"))?;
+    let pivots = number_or(USUAL_PIVOTS, MOST, text_of(matches, "pivots"))?;
+    let full = is_full(text_of(matches, "shrink"))?;
+    Some(Settings {
+        workers,
+        pieces,
+        pivots,
+        full,
+        brief: stands(matches, "brief"),
+    })
+}
+
+fn solve_of(matches: &ArgMatches) -> Option<Command>
+    ensures { result ≡ solve_of (rows_of (found_of matches.now)) }
+{
+    if is_beyond_solve(matches) {
+        return None;
+    }
+    Some(Command::Solve(settings_of(matches)?))
+}
+
+fn draft_of(solve: bool, numbers: &[&str]) -> Option<Draft>
+    ensures { result ≡ draft_of solve (map (λ s. s.now) numbers.now) }
+{
+    let [seed, columns, rows, pairs] = numbers else {
+        return None;
+    };
+    let seed = number_in(0, MOST, seed)?;
+    let columns = number_in(0, MOST, columns)?;
+    let rows = number_in(0, MOST, rows)?;
+    let pairs = number_in(0, MOST, pairs)?;
+    Some(Draft {
         seed,
         columns,
         rows,
         pairs,
         solve,
-    }))
+    })
 }
 
-fn gen_of(words: &[String]) -> Option<Command>
-    ensures { result ≡ gen_of (map string_bytes words.now) }
+fn draft_in(solve: bool, matches: &ArgMatches) -> Option<Draft>
+    ensures { result ≡ draft_of solve (numbers_of (rows_of (found_of matches.now))) }
 {
-    match words {
-        [s, c, r, p] => draft_of(false, s.as_str(), c.as_str(), r.as_str(), p.as_str()),
-        [s, c, r, p, word] => {
-            if word.as_str() == "--solve" {
-                draft_of(true, s.as_str(), c.as_str(), r.as_str(), p.as_str())
-            } else {
-                None
-            }
-        }
-        _ => None,
+    match matches.get_strs("numbers") {
+        Some(numbers) => draft_of(solve, numbers),
+        None => None,
     }
 }
 
-fn settings_of(given: Given) -> Settings
-    ensures { result ≡ settings_of given }
+fn gen_of(matches: &ArgMatches) -> Option<Command>
+    ensures { result ≡ gen_of (rows_of (found_of matches.now)) }
 {
-    Settings {
-        workers: given.workers.unwrap_or(1),
-        pieces: given.pieces.unwrap_or(USUAL_PIECES),
-        pivots: given.pivots.unwrap_or(USUAL_PIVOTS),
-        full: given.full.unwrap_or(true),
-        brief: given.brief,
-    }
-}
-
-fn solve_of(words: &[String]) -> Option<Command>
-    ensures { result ≡ solve_of (map string_bytes words.now) }
-{
-    let given = given_from(words, nothing())?;
-    Some(Command::Solve(settings_of(given)))
-}
-
-fn check_of(words: &[String]) -> Option<Command>
-    ensures { result ≡ check_of (map string_bytes words.now) }
-{
-    match words {
-        [] => Some(Command::Check),
-        _ => None,
-    }
-}
-
-/// The command that the words are, those behind the program's name. It takes no memory.
-pub fn command_of(words: &[String]) -> Option<Command>
-    ensures { result ≡ command_of (map string_bytes words.now) }
-{
-    let [first, rest @ ..] = words else {
+    if is_beyond_gen(matches) {
         return None;
-    };
-    if first.as_str() == "check" {
-        check_of(rest)
-    } else if first.as_str() == "relax" {
-        relax_of(rest)
-    } else if first.as_str() == "gen" {
-        gen_of(rest)
-    } else if first.as_str() == "solve" {
-        solve_of(rest)
+    }
+    let solve = stands(matches, "solve");
+    Some(Command::Generate(draft_in(solve, matches)?))
+}
+
+fn command_named(name: &str, matches: &ArgMatches) -> Option<Command>
+    ensures { result ≡ command_named name.now (rows_of (found_of matches.now)) }
+{
+    if name == "check" {
+        check_of(matches)
+    } else if name == "relax" {
+        relax_of(matches)
+    } else if name == "gen" {
+        gen_of(matches)
+    } else if name == "solve" {
+        solve_of(matches)
     } else {
         None
+    }
+}
+
+/// The command that the matches of a parse are.
+pub fn command_in(matches: &ArgMatches) -> Option<Command>
+    ensures { result ≡ command_in (rows_of (found_of matches.now)) }
+{
+    match text_of(matches, "command") {
+        Some(name) => command_named(name, matches),
+        None => None,
     }
 }

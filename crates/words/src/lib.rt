@@ -3,7 +3,9 @@
 
 mod command;
 mod numbers;
-mod options;
+mod rules;
+mod taking;
 
-pub use command::{Command, Draft, Settings, USUAL_PIECES, USUAL_PIVOTS, command_of};
+pub use command::{Command, Draft, MOST_WORKERS, Settings, USUAL_PIECES, USUAL_PIVOTS};
 pub use numbers::MOST;
+pub use taking::command_of;

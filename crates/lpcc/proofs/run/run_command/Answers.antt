@@ -1,13 +1,16 @@
+use Rattle.std.proofs.Common.{ap}
+use Rattle.engine.specs.Solved.{alone}
 use Rattle.words.specs.declared.command.Command.TheVariants.{Generate, Solve}
+use Rattle.lpcc.specs.Commands.{by_one_worker}
 use Rattle.lpcc.proofs.Statuses.{at_command, of_solve}
 use Rattle.lpcc.proofs.run.run_command.Goals as goal
 
 pub returns-in-Solve-clause-answered : goal.returns-in-Solve-clause-answered
 returns-in-Solve-clause-answered g c =
     let e = c.run_solve.ensures in
-    at_command c.args.command (Solve c.in-Solve.settings) _ _ _ _ _ _ _ _ c.in-Solve.is
-    (of_solve c.in-Solve.settings c.options_of.result _ _ _ _ _ _ _ _ c.options_of.ensures e.answered e.verdict e.enough)
+    at_command by_one_worker c.args.command (Solve c.in-Solve.settings) _ _ _ _ _ _ _ _ c.in-Solve.is
+    (of_solve by_one_worker c.in-Solve.settings (alone c.options_of.result) _ _ _ _ _ _ _ _ (ap alone c.options_of.ensures) e.answered e.verdict e.enough)
 
 pub returns-in-Generate-clause-answered : goal.returns-in-Generate-clause-answered
 returns-in-Generate-clause-answered g c =
-    at_command c.args.command (Generate c.in-Generate.draft) _ _ _ _ _ _ _ _ c.in-Generate.is (c.run_draft.ensures (g.S.Source.left c.args.src.now) (g.S.Source.faults c.args.src.now) (g.S.Source.faults c.args.src.now))
+    at_command by_one_worker c.args.command (Generate c.in-Generate.draft) _ _ _ _ _ _ _ _ c.in-Generate.is (c.run_draft.ensures (g.S.Source.left c.args.src.now) (g.S.Source.faults c.args.src.now) (g.S.Source.faults c.args.src.now))

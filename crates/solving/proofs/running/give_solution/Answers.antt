@@ -1,6 +1,5 @@
-use Rattle.engine.specs.Solved.{alone}
 use Rattle.solving.proofs.Runs.{shown_form}
 use Rattle.solving.proofs.running.give_solution.Goals as goal
 
 pub give_ending-requires-clause-form : goal.give_ending-requires-clause-form
-give_ending-requires-clause-form g c = shown_form c.args.case.now (alone c.args.options.now) c.solve_alone-ending.result c.solve_alone-ending.ensures.verdict
+give_ending-requires-clause-form g c = shown_form c.args.case.now c.args.options.now c.args.ending.now c.requires.shown
