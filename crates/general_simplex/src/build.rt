@@ -66,16 +66,7 @@ fn row_of<N: Number>(
     let Some((constant, den)) = fill(entries.as_mut_slice(), bounds, terms, constant) else {
         return Ok(None);
     };
-    let mut row = Row {
-        entries,
-        constant,
-        den,
-        magnitude: N::of(0),
-        reduced_magnitude: N::of(0),
-        variable,
-    };
-    row.reduce();
-    Ok(Some(row))
+    Ok(Some(Row::of(alloc, entries, constant, den, variable)?))
 }
 
 fn variable_of(bounds: ColumnBounds, place: usize) -> Variable {

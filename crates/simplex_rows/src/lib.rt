@@ -13,6 +13,7 @@ mod ratio;
 mod row;
 mod shift;
 mod variable;
+mod words;
 
 pub use blocking::{Blocking, ratio_test};
 pub use entering::entering_column;

@@ -48,7 +48,8 @@ impl Pattern {
         }
     }
 
-    fn flip(&mut self, row: usize, col: usize, fills: bool) {
+    /// An entry of a column becomes zero, or fills.
+    pub fn flip(&mut self, row: usize, col: usize, fills: bool) {
         let (word, mask) = bit_of(self.stride, row, col);
         if col < self.counts.len() && word < self.words.len() {
             let count = self.counts[col];

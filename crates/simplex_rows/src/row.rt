@@ -1,7 +1,9 @@
 //! Rows of the dictionary, and the operations on them that take the time.
 
 use crate::pattern::Pattern;
+use crate::words::{bits_of, common_divisor, divide, magnitude_of, multiply, toggle};
 use simplex_numbers::Number;
+use std::alloc::{AllocError, Global};
 
 /// A row below this magnitude keeps its common divisor.
 const WORTH_REDUCING: i64 = 1 << 24;
@@ -14,6 +16,8 @@ const GROWTH: u32 = 6;
 #[derive(Drop)]
 pub struct Row<N> {
     pub entries: Vec<N>,
+    /// A bit for each entry that is not zero.
+    nonzero: Vec<u64>,
     pub constant: N,
     pub den: N,
     /// At least the size of each number: the sizes joined, or more.
@@ -66,11 +70,21 @@ impl<N: Number> Factors<N> {
     }
 }
 
+/// Tells the bit set of row `i` and the pattern that an entry changes.
+#[inline(always)]
+fn change<N: Number>(bits: &mut [u64], pattern: &mut Pattern, i: usize, k: usize, old: N, new: N) {
+    if old.is_zero() != new.is_zero() {
+        toggle(bits, k);
+        pattern.flip(i, k, old.is_zero());
+    }
+}
+
 /// Takes `factor` times the terms from the numbers, which are those of row `i`, and gives the
 /// sizes of the new ones, joined.
 #[inline(always)]
 fn subtract<N: Number>(
     numbers: &mut [N],
+    bits: &mut [u64],
     terms: &[(usize, N)],
     factor: N,
     pattern: &mut Pattern,
@@ -84,17 +98,10 @@ fn subtract<N: Number>(
             let new = old.minus(factor.times(v));
             numbers[k] = new;
             magnitude = magnitude.join(new.size());
-            pattern.change(i, k, old, new);
+            change(bits, pattern, i, k, old, new);
         }
     }
     magnitude
-}
-
-#[inline(always)]
-fn multiply<N: Number>(numbers: &mut [N], factor: N) {
-    for x in numbers.iter_mut() {
-        *x = x.times(factor);
-    }
 }
 
 #[inline(always)]
@@ -109,41 +116,6 @@ fn put<T: Copy>(list: &mut [T], k: usize, value: T) {
     if k < list.len() {
         list[k] = value;
     }
-}
-
-fn magnitude_of<N: Number>(numbers: &[N]) -> N {
-    let mut magnitude = N::of(0);
-    for x in numbers {
-        magnitude = magnitude.join(x.size());
-    }
-    magnitude
-}
-
-/// The greatest common divisor of a size above 0 and the numbers.
-fn common_divisor<N: Number>(start: N, numbers: &[N]) -> N {
-    let mut common = start;
-    let mut divisor = start.divisor();
-    for x in numbers {
-        if !x.is_divided(divisor) {
-            common = common.gcd(*x);
-            if common.is_one() {
-                break;
-            }
-            divisor = common.divisor();
-        }
-    }
-    common
-}
-
-/// Divides the numbers, and gives the sizes of the quotients, joined.
-fn divide<N: Number>(numbers: &mut [N], divisor: N::Divisor) -> N {
-    let mut magnitude = N::of(0);
-    for x in numbers.iter_mut() {
-        let new = x.divided(divisor);
-        *x = new;
-        magnitude = magnitude.join(new.size());
-    }
-    magnitude
 }
 
 fn fill_products<N: Number>(products: &mut [N::Product], numbers: &[N], factor: N) {
@@ -182,6 +154,7 @@ fn common_product_divisor<N: Number>(
 /// Writes the quotients, and gives their sizes, joined. None where one does not fit.
 fn divide_products<N: Number>(
     numbers: &mut [N],
+    bits: &mut [u64],
     products: &[N::Product],
     divisor: N::ProductDivisor,
     pattern: &mut Pattern,
@@ -194,13 +167,35 @@ fn divide_products<N: Number>(
             let old = numbers[k];
             numbers[k] = new;
             magnitude = magnitude.join(new.size());
-            pattern.change(i, k, old, new);
+            change(bits, pattern, i, k, old, new);
         }
     }
     Some(magnitude)
 }
 
 impl<N: Number> Row<N> {
+    /// A row without a common divisor, of entries, a constant and a denominator above 0.
+    pub fn of(
+        alloc: Global,
+        entries: Vec<N>,
+        constant: N,
+        den: N,
+        variable: usize,
+    ) -> Result<Row<N>, AllocError> {
+        let nonzero = bits_of(alloc, entries.as_slice())?;
+        let mut row = Row {
+            entries,
+            nonzero,
+            constant,
+            den,
+            magnitude: N::of(0),
+            reduced_magnitude: N::of(0),
+            variable,
+        };
+        row.reduce();
+        Ok(row)
+    }
+
     /// The entry at a column, and 0 past the last one.
     #[inline(always)]
     pub fn entry(&self, col: usize) -> N {
@@ -213,7 +208,11 @@ impl<N: Number> Row<N> {
 
     /// The greatest common divisor of the denominator and the entries.
     pub fn divisor_of_multipliers(&self) -> N {
-        common_divisor(self.den.size(), self.entries.as_slice())
+        common_divisor(
+            self.den.size(),
+            self.entries.as_slice(),
+            self.nonzero.as_slice(),
+        )
     }
 
     /// Takes out the common divisor.
@@ -222,15 +221,19 @@ impl<N: Number> Row<N> {
         let common = if start.is_one() {
             start
         } else {
-            common_divisor(start, self.entries.as_slice())
+            common_divisor(start, self.entries.as_slice(), self.nonzero.as_slice())
         };
         let magnitude = if common.is_one() {
-            magnitude_of(self.entries.as_slice())
+            magnitude_of(self.entries.as_slice(), self.nonzero.as_slice())
         } else {
             let divisor = common.divisor();
             self.den = self.den.divided(divisor);
             self.constant = self.constant.divided(divisor);
-            divide(self.entries.as_mut_slice(), divisor)
+            divide(
+                self.entries.as_mut_slice(),
+                self.nonzero.as_slice(),
+                divisor,
+            )
         };
         self.magnitude = magnitude.join(self.den.size()).join(self.constant.size());
     }
@@ -251,7 +254,7 @@ impl<N: Number> Row<N> {
         if !N::combination_fits(self.magnitude, factor.size(), zero, zero) {
             return None;
         }
-        multiply(self.entries.as_mut_slice(), factor);
+        multiply(self.entries.as_mut_slice(), self.nonzero.as_slice(), factor);
         Some(())
     }
 
@@ -267,12 +270,19 @@ impl<N: Number> Row<N> {
         let Factors { own, other } = factors;
         let mut magnitude = self.magnitude;
         if !own.is_one() {
-            multiply(self.entries.as_mut_slice(), own);
+            multiply(self.entries.as_mut_slice(), self.nonzero.as_slice(), own);
             self.den = self.den.times(own);
             self.constant = self.constant.times(own);
             magnitude = magnitude.join(magnitude.saturating_times(own));
         }
-        let changed = subtract(self.entries.as_mut_slice(), terms, other, pattern, i);
+        let changed = subtract(
+            self.entries.as_mut_slice(),
+            self.nonzero.as_mut_slice(),
+            terms,
+            other,
+            pattern,
+            i,
+        );
         self.constant = self.constant.minus(other.times(pivot.constant));
         let left = other.times(pivot.den);
         put(self.entries.as_mut_slice(), pivot.col, left);
@@ -312,6 +322,7 @@ impl<N: Number> Row<N> {
         self.constant = N::product_divided(constant, divisor)?;
         let magnitude = divide_products(
             self.entries.as_mut_slice(),
+            self.nonzero.as_mut_slice(),
             products,
             divisor,
             pattern,
