@@ -1,27 +1,48 @@
 //! What is known of a case while its pieces are settled.
-ghost use Rattle.std.specs.Prelude.{◌≡◌, ◌≤ℤ◌, pos, IfOk, IfSome, None, Some};
+ghost use Rattle.std.specs.Prelude.{◌≡◌, All, IfOk, IfSome, Some};
 ghost use Rattle.std.specs.Option.{option_copied};
+ghost use Rattle.lpcc_case.specs.Instance.{Instance};
 ghost use Rattle.cuts.specs.Cuts.{Passes};
 ghost use Rattle.reasons.specs.Reasons.{IsActiveAgainst};
 ghost use Rattle.shrink.specs.Shrinking.{IsShrunk};
-ghost use Rattle.play.specs.Points.{IsCandidate, lowered};
-ghost use Rattle.lpcc_case.specs.Instance.{Instance};
+ghost use Rattle.own_order.specs.Searching.{IsAgainst};
+ghost use Rattle.play.specs.Points.{IsBest, IsCandidate, lowered};
 ghost use Rattle.settling.specs.Known.{IsTrueKnowledge, nothing_known};
 
+use crate::copies::{copy_best, copy_cut};
+use crate::searching::{add_known, begun, copies_at, gone_on, push_known};
 use cuts::Cut;
 use lpcc_case::{Case, Point, lower};
+use nogoods::Piece;
+use own_order::{PairSearch, Stop};
 use shrink::{KnownPoints, Shrunk, shrink_with};
 use std::alloc::{AllocError, Global};
 use std::marker::Model;
 
-/// What is known of a case while its pieces are settled: the incumbent, and points at which choices
-/// are loose. Contracts see the incumbent.
+/// So many pieces are settled before the search over the pairs begins. Most small decks need no
+/// more.
+pub const PLAIN_PIECES: u64 = 8;
+
+/// What is known of a case while its pieces are settled: the incumbent, points at which choices are
+/// loose, and a search over the pairs in an order of its own, which begins when some pieces have
+/// been settled. Contracts see the incumbent, the cuts that wait for the search, and what the search
+/// has found.
 #[derive(Drop)]
 pub struct Knowledge {
-    incumbent: Option<Point>,
-    points: KnownPoints,
+    alloc: Global,
     /// The search of another worker has another seed.
     seed: u64,
+    incumbent: Option<Point>,
+    points: KnownPoints,
+    cuts: Vec<Cut>,
+    search: Option<PairSearch>,
+    /// The pieces that were asked about.
+    pieces: u64,
+    /// The conflicts that the search was allowed.
+    conflicts: u64,
+    is_over: bool,
+    /// The places of the cuts that were found and not taken yet.
+    fresh: Vec<usize>,
 }
 
 impl Model for Knowledge {
@@ -29,23 +50,15 @@ impl Model for Knowledge {
 
     ghost Value = { Known };
 
-    ghost view = { λ k. record { incumbent = k.incumbent } };
-}
-
-fn copy_best(alloc: Global, best: Option<&Point>) -> Result<Option<Point>, AllocError>
-    ensures { IfOk result (λ made. made ≡ option_copied best.entry) }
-{
-    match best {
-        Some(point) => Ok(Some(point.copy(alloc)?)),
-        None => Ok(None),
-    }
+    ghost view = { λ k. record { incumbent = k.incumbent; cuts = k.cuts.items; found = k.search } };
 }
 
 /// The lower of the incumbent and a point that was found, the incumbent where they cost the same.
-fn improved(incumbent: Option<Point>, found: Point) -> Option<Point>
-    requires old { IfSome incumbent (λ q. pos 1 ≤ℤ q.d) }
-    requires found { pos 1 ≤ℤ found.d }
-    ensures { result ≡ lowered incumbent (Some found) }
+fn improved(case: &Case, incumbent: Option<Point>, found: Point) -> Option<Point>
+    requires old { IsBest case.now incumbent }
+    requires found { IsCandidate case.now found }
+    ensures value { result ≡ lowered incumbent (Some found) }
+    ensures best { IsBest case.now result }
 {
     let Some(old) = incumbent else {
         return Some(found);
@@ -65,9 +78,16 @@ impl Knowledge {
         ensures known { (a : Instance) → IsTrueKnowledge a result }
     {
         Knowledge {
+            alloc,
+            seed,
             incumbent: None,
             points: KnownPoints::new(alloc),
-            seed,
+            cuts: Vec::new(alloc),
+            search: None,
+            pieces: 0,
+            conflicts: 0,
+            is_over: false,
+            fresh: Vec::new(alloc),
         }
     }
 
@@ -92,13 +112,43 @@ impl Knowledge {
         ensures lowered { self.new.incumbent ≡ lowered self.old.incumbent (Some point) }
         ensures known { IsTrueKnowledge case.now self.new }
     {
-        self.incumbent = improved(self.incumbent.take(), point);
+        self.incumbent = improved(case, self.incumbent.take(), point);
+    }
+
+    /// Takes in a cut that passes, as one of another worker.
+    ///
+    /// # Errors
+    ///
+    /// Want of memory alone.
+    pub fn learn(&mut self, case: &Case, cut: Cut) -> Result<(), AllocError>
+        requires known { IsTrueKnowledge case.now self.old }
+        requires passes { Passes case.now cut }
+        ensures incumbent { self.new.incumbent ≡ self.old.incumbent }
+        ensures known { IsTrueKnowledge case.now self.new }
+    {
+        if let Some(search) = &mut self.search {
+            return add_known(case, search, cut);
+        }
+        push_known(case, &mut self.cuts, cut)
+    }
+
+    /// Takes in a copy of a cut that settles a piece, where the search has not begun.
+    pub(crate) fn keep_cut(&mut self, case: &Case, cut: &Cut) -> Result<(), AllocError>
+        requires known { IsTrueKnowledge case.now self.old }
+        requires passes { Passes case.now cut.now }
+        ensures incumbent { self.new.incumbent ≡ self.old.incumbent }
+        ensures known { IsTrueKnowledge case.now self.new }
+    {
+        if self.search.is_some() {
+            return Ok(());
+        }
+        let copy = copy_cut(self.alloc, cut)?;
+        push_known(case, &mut self.cuts, copy)
     }
 
     /// Shrinks a cut against the incumbent, over the points that are known.
-    pub fn shrink_cut(
+    pub(crate) fn shrink_cut(
         &mut self,
-        alloc: Global,
         case: &Case,
         cut: Cut,
         pivots: u64,
@@ -110,6 +160,127 @@ impl Knowledge {
         ensures shrunk { IfOk result (IsShrunk case.now pivots self.old.incumbent cut) }
     {
         let limit = self.incumbent.as_ref();
-        shrink_with(alloc, case, cut, limit, pivots, &mut self.points)
+        match &mut self.search {
+            Some(search) => search.shrink(case, cut, limit, pivots),
+            None => shrink_with(self.alloc, case, cut, limit, pivots, &mut self.points),
+        }
+    }
+
+    /// A copy of a cut that the search has and that bars the piece and is active against the
+    /// incumbent, of fewest choices. None where it has none.
+    pub(crate) fn cut_against(&self, case: &Case, piece: &Piece) -> Result<Option<Cut>, AllocError>
+        requires known { IsTrueKnowledge case.now self.now }
+        ensures { IfOk result (λ made. IfSome made (λ c. Passes case.now c × IsAgainst piece.now self.now.incumbent c)) }
+    {
+        let Some(search) = &self.search else {
+            return Ok(None);
+        };
+        let Some(cut) = search.cut_against(case, piece, self.incumbent.as_ref()) else {
+            return Ok(None);
+        };
+        Ok(Some(copy_cut(self.alloc, cut)?))
+    }
+
+    /// Whether the search has not begun and will do so at the next piece, or has begun and has not
+    /// come to its end.
+    pub fn is_searching(&self) -> bool {
+        self.pieces >= PLAIN_PIECES && !self.is_over
+    }
+
+    /// Begins the search where it has not begun.
+    fn begin(&mut self, case: &Case) -> Result<(), AllocError>
+        requires known { IsTrueKnowledge case.now self.old }
+        ensures known { IsTrueKnowledge case.now self.new }
+    {
+        if self.search.is_some() {
+            return Ok(());
+        }
+        let search = begun(self.alloc, case, self.seed, self.cuts.as_slice())?;
+        self.search = Some(search);
+        Ok(())
+    }
+
+    /// Goes on with a search that has begun.
+    fn go_on(&mut self, case: &Case, conflicts: u64) -> Result<(), AllocError>
+        requires known { IsTrueKnowledge case.now self.old }
+        ensures known { IsTrueKnowledge case.now self.new }
+    {
+        let Some(search) = &mut self.search else {
+            return Ok(());
+        };
+        let incumbent = self.incumbent.as_ref();
+        let found = &mut self.fresh;
+        match gone_on(self.alloc, case, search, incumbent, conflicts, found) {
+            Ok(stop) => {
+                self.is_over = stop != Stop::Conflicts;
+                Ok(())
+            },
+            Err(fault) => Err(fault),
+        }
+    }
+
+    /// Begins the search where it has not begun, and goes on with it until it has met as many
+    /// conflicts, or comes to its end. The best point that it has becomes the incumbent.
+    ///
+    /// # Errors
+    ///
+    /// Want of memory alone.
+    pub fn search_on(&mut self, case: &Case, conflicts: u64) -> Result<(), AllocError>
+        requires known { IsTrueKnowledge case.now self.old }
+        ensures known { IsTrueKnowledge case.now self.new }
+    {
+        self.begin(case)?;
+        self.conflicts = self.conflicts.saturating_add(conflicts);
+        self.go_on(case, conflicts)?;
+        self.take_best(case)
+    }
+
+    /// Takes the best point of the search as the incumbent, where it is lower.
+    fn take_best(&mut self, case: &Case) -> Result<(), AllocError>
+        requires known { IsTrueKnowledge case.now self.old }
+        ensures known { IsTrueKnowledge case.now self.new }
+    {
+        let Some(search) = &self.search else {
+            return Ok(());
+        };
+        let Some(best) = search.best() else {
+            return Ok(());
+        };
+        let point = best.copy(self.alloc)?;
+        self.improve(case, point);
+        Ok(())
+    }
+
+    /// Counts a piece, and searches where so many were settled without a search. In all the search
+    /// meets at most as many conflicts as pieces may be drawn.
+    pub(crate) fn prepare(&mut self, case: &Case, most: u64) -> Result<(), AllocError>
+        requires known { IsTrueKnowledge case.now self.old }
+        ensures known { IsTrueKnowledge case.now self.new }
+    {
+        if self.is_searching() {
+            let conflicts = most.saturating_sub(self.conflicts);
+            self.search_on(case, conflicts)?;
+            self.is_over = true;
+        }
+        self.pieces = self.pieces.saturating_add(1);
+        Ok(())
+    }
+
+    /// Copies of the cuts that the search has found since they were taken last. They pass.
+    ///
+    /// # Errors
+    ///
+    /// Want of memory alone; then they are still to be taken.
+    pub fn take_found(&mut self, case: &Case) -> Result<Vec<Cut>, AllocError>
+        requires known { IsTrueKnowledge case.now self.old }
+        ensures same { self.new ≡ self.old }
+        ensures passes { IfOk result (λ made. All (Passes case.now) made.items) }
+    {
+        let mut made = Vec::new(self.alloc);
+        if let Some(search) = &self.search {
+            made = copies_at(self.alloc, case, search, self.fresh.as_slice())?;
+        }
+        self.fresh.clear();
+        Ok(made)
     }
 }

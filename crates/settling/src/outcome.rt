@@ -25,21 +25,24 @@ fn by_plain_cut(
     alloc: Global,
     case: &Case,
     options: &Options,
-    known: &Knowledge,
+    known: &mut Knowledge,
     piece: &Piece,
     cut: Cut,
 ) -> Result<Outcome, AllocError>
     requires off { options.now.shrink ≡ Off }
     requires passes { Passes case.now cut }
     requires bars { Bars (no_good_of cut) piece.now }
-    requires active { IsActiveAgainst cut known.now.incumbent }
-    requires known { IsTrueKnowledge case.now known.now }
-    ensures { IfOk result (IsOutcomeOf case.now options.now piece.now) }
+    requires active { IsActiveAgainst cut known.old.incumbent }
+    requires known { IsTrueKnowledge case.now known.old }
+    ensures known { IsTrueKnowledge case.now known.new }
+    ensures outcome { IfOk result (IsOutcomeOf case.now options.now piece.now) }
 {
+    let best = known.copy_incumbent(alloc)?;
+    known.keep_cut(case, &cut)?;
     Ok(Outcome::Cut {
         cut,
         kept: Sequence::new(alloc),
-        best: known.copy_incumbent(alloc)?,
+        best,
     })
 }
 
@@ -57,11 +60,12 @@ fn by_shrunk_cut(
     requires bars { Bars (no_good_of cut) piece.now }
     requires active { IsActiveAgainst cut known.old.incumbent }
     requires known { IsTrueKnowledge case.now known.old }
-    ensures same { known.new ≡ known.old }
+    ensures known { IsTrueKnowledge case.now known.new }
     ensures outcome { IfOk result (IsOutcomeOf case.now options.now piece.now) }
 {
     let best = known.copy_incumbent(alloc)?;
-    let shrunk = known.shrink_cut(alloc, case, cut, options.pivots)?;
+    let shrunk = known.shrink_cut(case, cut, options.pivots)?;
+    known.keep_cut(case, &shrunk.cut)?;
     Ok(Outcome::Cut {
         cut: shrunk.cut,
         kept: shrunk.kept,
@@ -82,7 +86,7 @@ fn by_cut(
     requires bars { Bars (no_good_of cut) piece.now }
     requires active { IsActiveAgainst cut known.old.incumbent }
     requires known { IsTrueKnowledge case.now known.old }
-    ensures same { known.new ≡ known.old }
+    ensures known { IsTrueKnowledge case.now known.new }
     ensures outcome { IfOk result (IsOutcomeOf case.now options.now piece.now) }
 {
     match options.shrink {
@@ -127,14 +131,8 @@ fn by_optimum(
     by_cut(alloc, case, options, known, piece, cut)
 }
 
-/// Solves the program of the piece's choices, keeps the best point, and tells how the piece is to
-/// be settled: by a cut that bars it, by a direction in which the cost falls without end, or by the
-/// end of a walk without an answer.
-///
-/// # Errors
-///
-/// Want of memory alone.
-pub fn outcome_of(
+/// Solves the program of the piece's choices, and keeps the best point.
+fn by_program(
     alloc: Global,
     case: &Case,
     options: &Options,
@@ -152,5 +150,33 @@ pub fn outcome_of(
         LpAnswer::Unbounded(point, ray) => Ok(Outcome::Unbounded { point, ray }),
         LpAnswer::Wide(at) => Ok(Outcome::Wide(at)),
         LpAnswer::Spent(at) => Ok(Outcome::Spent(at)),
+    }
+}
+
+/// How the piece is to be settled: by a cut that bars it, by a direction in which the cost falls
+/// without end, or by the end of a walk without an answer. A known cut serves where one bars the
+/// piece and is active; else the program of the piece's choices is solved. When `PLAIN_PIECES`
+/// pieces have been asked about, the search over the pairs is made first, with as many conflicts as
+/// pieces may be drawn. The best point of either becomes the incumbent.
+///
+/// # Errors
+///
+/// Want of memory alone.
+pub fn outcome_of(
+    alloc: Global,
+    case: &Case,
+    options: &Options,
+    known: &mut Knowledge,
+    piece: &Piece,
+) -> Result<Outcome, AllocError>
+    requires piece { IsPiece case.now piece.now }
+    requires known { IsTrueKnowledge case.now known.old }
+    ensures known { IsTrueKnowledge case.now known.new }
+    ensures outcome { IfOk result (IsOutcomeOf case.now options.now piece.now) }
+{
+    known.prepare(case, options.pieces)?;
+    match known.cut_against(case, piece)? {
+        Some(cut) => by_cut(alloc, case, options, known, piece, cut),
+        None => by_program(alloc, case, options, known, piece),
     }
 }

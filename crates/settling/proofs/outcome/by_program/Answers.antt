@@ -1,5 +1,5 @@
 use Rattle.settling.proofs.Outcomes.{direction_outcome, infeasible_bars}
-use Rattle.settling.proofs.outcome.outcome_of.Goals as goal
+use Rattle.settling.proofs.outcome.by_program.Goals as goal
 
 pub by_cut-requires-clause-bars : goal.by_cut-requires-clause-bars
 by_cut-requires-clause-bars c =
