@@ -1,6 +1,7 @@
 -- When a ticket may be settled.
-use Rattle.std.proofs.Common.{ℕ, ◌+◌, ◌<◌, ◌≤◌, ◌≡◌, ◌≢◌, refl, sym, ap, ◌∙◌, subst, arith, List, [], ◌∷◌, length, drop, true, All, Some, None}
-use Rattle.std.specs.Prelude.{Option, slice_index_or}
+use Rattle.std.proofs.Common.{ℕ, ◌+◌, ◌<◌, ◌≤◌, ◌≡◌, ◌≢◌, refl, sym, ap, ◌∙◌, subst, arith, List, [], ◌∷◌, length, drop, true, false, All, Some, None}
+use Rattle.std.specs.Prelude.{Option, is_some, slice_index_or}
+use Rattle.std.proofs.lemmas.Bool.{false≢true}
 use Rattle.std.proofs.lemmas.List.{length-drop}
 use Rattle.nogoods.specs.declared.choice.Side.{Side}
 use Rattle.lpcc_case.specs.Instance.{Instance}
@@ -86,3 +87,8 @@ readied r s R room = record {
   room = room;
   marks = λ k h. let l = R.lanes k (omega (arith, h, R.count)) in l.at_ready ∙ ap length (sym l.same);
 }
+
+-- no cut was found
+pub heard_none : (a : Instance) (piece : List Side) (best : Option Point) (r : ReachView) (found : Option Barring) → is_some found ≡ false → IsReading a piece best r found → IsReading a piece best r None
+heard_none a piece best r None no_cut R = R
+heard_none a piece best r (Some b) no_cut R = absurd (false≢true (sym no_cut))

@@ -7,7 +7,9 @@ mod incumbent;
 mod locked;
 mod noting;
 mod piece;
+mod publishing;
 mod reading;
+mod searching;
 mod turns;
 
 pub use gate::{Gate, Mark, NoGate};

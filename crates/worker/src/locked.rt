@@ -1,10 +1,10 @@
 //! What a worker does with the desk while it holds the lock. What is found under a lock is known by
 //! its type alone, so each time the desk is asked first whether it is that of this run, and whether
 //! the worker's reach and ticket are those that it knows.
-ghost use Rattle.std.specs.Prelude.{◌≡◌, IsTrue, IfOk, None, Some};
+ghost use Rattle.std.specs.Prelude.{◌≡◌, IsTrue, IfOk, OnOk, None, Some};
 ghost use Rattle.std.specs.Option.{option_copied};
 ghost use Rattle.desk.specs.Desks.{Fits};
-ghost use Rattle.worker.specs.Turns.{IsDrawn, IsReachOf, MaySettleBy, Takes};
+ghost use Rattle.worker.specs.Turns.{IsDrawn, IsReachOf, IsReady, MaySettleBy, Takes};
 
 use cut_pool::Reach;
 use desk::{Desk, Draw};
@@ -89,6 +89,30 @@ pub fn take_turn(
             Turn::Over
         }
     }
+}
+
+/// Readies the reach of a worker that holds a ticket, and needs room for more cuts.
+///
+/// # Errors
+///
+/// Want of memory, and a desk that does not know the worker. Then the desk is to be left.
+#[tactic(auto, using(crate::proofs::OwnLaws::readied))]
+pub fn ready_again(
+    alloc: Global,
+    case: &Case,
+    options: &Options,
+    desk: &mut Desk,
+    reach: &mut Reach,
+    ticket: &Ticket,
+) -> Result<(), AllocError>
+    requires reach { IsReachOf case.now options.now ticket.now.worker reach.old }
+    ensures reach { IsReachOf case.now options.now ticket.now.worker reach.new }
+    ensures ready { OnOk result (IsReady reach.new) }
+{
+    if !is_known(case, options, desk, ticket.worker, reach, Some(ticket)) {
+        return Err(AllocError);
+    }
+    desk.ready(alloc, ticket.worker, reach)
 }
 
 /// Settles a ticket. A worker that the desk does not know, or that has no memory, abandons it with

@@ -108,6 +108,22 @@ fn barring_cut(
     }
 }
 
+/// Takes the cut of an item into what is known.
+pub fn learn(
+    alloc: Global,
+    case: &Case,
+    known: &mut Knowledge,
+    words: &[u64],
+) -> Result<(), AllocError>
+    requires fact { SpellsPassing case.now words.now }
+    requires known { IsTrueKnowledge case.now known.old }
+    ensures known { IsTrueKnowledge case.now known.new }
+    ensures incumbent { known.new.incumbent ≡ known.old.incumbent }
+{
+    let cut = cut_of(alloc, case, words)?;
+    known.learn(case, cut)
+}
+
 /// Notes the item of a place of a lane: its cut where it bars the piece and is active, and none was
 /// found before.
 #[tactic(auto, using(crate::proofs::LaneLaws::notes_same))]

@@ -1,63 +1,27 @@
 //! How a drawn piece is settled: by a cut of another worker, or by a solve of its own.
-ghost use Rattle.std.specs.Prelude.{◌≡◌, IfOk, IsTrue, List, None, length};
-ghost use Rattle.nogoods.specs.declared.choice.Side.{Side};
+ghost use Rattle.std.specs.Prelude.{◌≡◌, IfOk, IsTrue, OnOk, length};
 ghost use Rattle.lpcc_case.specs.Pieces.{IsPiece};
-ghost use Rattle.cuts.specs.Cuts.{Passes};
 ghost use Rattle.cut_words.specs.Words.{item_length};
 ghost use Rattle.best.specs.Passes.{IsPassOf};
-ghost use Rattle.cut_pool.specs.Reaches.{ReachView};
+ghost use Rattle.cut_pool.specs.Reaches.{HasCaughtUp, ReachView};
 ghost use Rattle.desk.specs.Settling.{HasReadAll};
 ghost use Rattle.settling.specs.Known.{IsTrueKnowledge};
-ghost use Rattle.worker.specs.Reading.{IsBarring, IsReading, IsSameWay};
-ghost use Rattle.worker.specs.Turns.{CutPasses, IsDrawn, IsOwn, IsReachOf, IsSameBut, MaySettleBy};
+ghost use Rattle.worker.specs.Reading.{IsBarring, IsReading};
+ghost use Rattle.worker.specs.Turns.{CutPasses, IsDrawn, IsOwn, IsReachOf, IsReady, MaySettleBy};
 
 use crate::gate::{Gate, Mark};
 use crate::incumbent::exchange_best;
 use crate::noting::Barring;
-use crate::reading::read_lanes;
+use crate::publishing::publish_outcome;
+use crate::searching::{hear, search};
 use best::{Best, BestPass};
 use cut_pool::Reach;
-use cut_words::{are_passing_words, to_words};
-use cuts::Cut;
+use desk::Desk;
 use lpcc_case::{Case, Point};
 use play::{Options, Outcome, Ticket};
 use settling::{Knowledge, outcome_of};
 use std::alloc::{AllocError, Global};
-use std::sync::Wait;
-
-/// Publishes a cut, where there is room for it.
-fn publish(case: &Case, reach: &mut Reach, words: &mut [u64], cut: &Cut) -> bool
-    requires case { reach.old.case ≡ case.now }
-    requires passes { Passes case.now cut.now }
-    requires length { length words.old ≡ item_length case.now }
-    ensures same { IsSameBut reach.old reach.new }
-    ensures length { length words.new ≡ length words.old }
-{
-    if reach.spare() == 0 {
-        return false;
-    }
-    to_words(case, cut, words);
-    if !are_passing_words(case, words) {
-        return false;
-    }
-    reach.publish(words);
-    true
-}
-
-/// Publishes the cut of an outcome, if it has one. What was read stays read.
-fn publish_outcome(case: &Case, reach: &mut Reach, words: &mut [u64], outcome: &Outcome) -> bool
-    requires case { reach.old.case ≡ case.now }
-    requires passes { CutPasses case.now outcome.now }
-    requires length { length words.old ≡ item_length case.now }
-    ensures same { (reach.new.worker ≡ reach.old.worker) × (reach.new.case ≡ reach.old.case) × (length reach.new.lanes ≡ length reach.old.lanes) }
-    ensures read { (piece : List Side) → HasReadAll reach.old piece → HasReadAll reach.new piece }
-    ensures length { length words.new ≡ length words.old }
-{
-    match outcome {
-        Outcome::Cut { cut, .. } => publish(case, reach, words, cut),
-        _ => false,
-    }
-}
+use std::sync::{Mutex, Wait};
 
 /// Settles a ticket by another worker's cut.
 #[tactic(auto, using(crate::proofs::OwnLaws::other_settles))]
@@ -151,14 +115,51 @@ fn solve<R: Wait, G: Gate>(
     Ok(outcome)
 }
 
+/// A cut of another worker that bars the piece of a ticket, if one is read before the piece is to be
+/// solved.
+#[tactic(auto, using(crate::proofs::OwnLaws::heard_none))]
+fn find_barring<R: Wait>(
+    rt: &R,
+    alloc: Global,
+    case: &Case,
+    options: &Options,
+    desk: &Mutex<Desk>,
+    best: &Best<Point>,
+    pass: &mut BestPass<Point>,
+    known: &mut Knowledge,
+    reach: &mut Reach,
+    words: &mut [u64],
+    ticket: &Ticket,
+) -> Result<Option<Barring>, AllocError>
+    requires pass { IsPassOf best.now pass.old }
+    requires known { IsTrueKnowledge case.now known.old }
+    requires reach { IsReachOf case.now options.now ticket.now.worker reach.old }
+    requires ready { IsReady reach.old }
+    requires length { length words.old ≡ item_length case.now }
+    ensures pass { IsPassOf best.now pass.new }
+    ensures known { IsTrueKnowledge case.now known.new }
+    ensures reach { IsReachOf case.now options.now ticket.now.worker reach.new }
+    ensures length { length words.new ≡ length words.old }
+    ensures reading { IfOk result (IsReading case.now ticket.now.piece known.new.incumbent reach.new) }
+    ensures read { OnOk result (HasCaughtUp reach.new) }
+{
+    let heard = hear(rt, alloc, case, options, known, reach, words, ticket)?;
+    if heard.is_some() {
+        return Ok(heard);
+    }
+    search(
+        rt, alloc, case, options, desk, best, pass, known, reach, words, ticket,
+    )
+}
+
 /// How a ticket is to be settled: by a cut of another worker where one bars the piece, and else by
 /// a solve.
-#[tactic(auto, using(crate::proofs::OwnLaws::nothing_read))]
 pub fn outcome_for<R: Wait, G: Gate>(
     rt: &R,
     alloc: Global,
     case: &Case,
     options: &Options,
+    desk: &Mutex<Desk>,
     best: &Best<Point>,
     pass: &mut BestPass<Point>,
     known: &mut Knowledge,
@@ -178,15 +179,8 @@ pub fn outcome_for<R: Wait, G: Gate>(
     ensures length { length words.new ≡ length words.old }
     ensures settles { IfOk result (MaySettleBy case.now options.now ticket.now reach.new) }
 {
-    let read = read_lanes(
-        rt,
-        alloc,
-        case,
-        &ticket.piece,
-        known,
-        reach,
-        options.workers.number(),
-        words,
+    let read = find_barring(
+        rt, alloc, case, options, desk, best, pass, known, reach, words, ticket,
     )?;
     match read {
         Some(barring) => {

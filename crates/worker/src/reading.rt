@@ -5,7 +5,7 @@ ghost use Rattle.cut_pool.specs.Reaches.{HasCaughtUp};
 ghost use Rattle.settling.specs.Known.{IsTrueKnowledge};
 ghost use Rattle.worker.specs.Reading.{AreDry, IsReading, IsSameWay};
 
-use crate::noting::{Barring, note};
+use crate::noting::{Barring, learn, note};
 use cut_pool::Reach;
 use lpcc_case::Case;
 use nogoods::Piece;
@@ -44,6 +44,7 @@ fn read_next(
     if !reach.next(lane, words) {
         return Ok(false);
     }
+    learn(alloc, case, known, words)?;
     let before = found.take();
     *found = note(alloc, case, piece, known, words, lane, place, before)?;
     Ok(true)

@@ -54,6 +54,7 @@ fn find_out<R: Wait, G: Gate>(
     alloc: Global,
     case: &Case,
     options: &Options,
+    desk: &Mutex<Desk>,
     best: &Best<Point>,
     pass: &mut BestPass<Point>,
     known: &mut Knowledge,
@@ -76,7 +77,7 @@ fn find_out<R: Wait, G: Gate>(
     gate.pass(ticket.worker, Mark::Drawn, &ticket.piece);
     let piece = ticket.piece.copy(alloc)?;
     let outcome = outcome_for(
-        rt, alloc, case, options, best, pass, known, reach, words, ticket, gate,
+        rt, alloc, case, options, desk, best, pass, known, reach, words, ticket, gate,
     )?;
     Ok((piece, outcome))
 }
@@ -109,7 +110,7 @@ fn do_piece<R: Wait, G: Gate>(
 {
     let worker = ticket.worker;
     let found = find_out(
-        rt, alloc, case, options, best, pass, known, reach, words, &ticket, gate,
+        rt, alloc, case, options, desk, best, pass, known, reach, words, &ticket, gate,
     );
     let Ok((piece, outcome)) = found else {
         leave(rt, desk, bell, Some(ticket));

@@ -12,5 +12,7 @@ pub returns-clause-reading : goal.returns-clause-reading
 returns-clause-reading c =
     let came : c.next.result ≡ true = search rules in
     let was = c.take-before.ensures.value in
+    let best = c.learn.new.known.incumbent in
     let reading = subst (λ f. IsReading c.args.case.now c.args.piece.now c.args.known.now.incumbent c.args.reach.now f) (sym was) c.requires.reading in
-    read_more c.args.case.now c.args.piece.now c.args.known.now.incumbent c.args.reach.now c.next.new.self c.args.lane c.given-place.result _ _ c.next.result c.take-before.result c.in_ok-found.field-0 c.requires.other c.requires.lane c.given-place.ensures came c.next.ensures.same c.next.ensures.next c.in_ok-found.ensures reading
+    let reading' = subst (λ b. IsReading c.args.case.now c.args.piece.now b c.args.reach.now c.take-before.result) (sym c.learn.ensures.incumbent) reading in
+    read_more c.args.case.now c.args.piece.now best c.args.reach.now c.next.new.self c.args.lane c.given-place.result _ _ c.next.result c.take-before.result c.in_ok-found.field-0 c.requires.other c.requires.lane c.given-place.ensures came c.next.ensures.same c.next.ensures.next c.in_ok-found.ensures reading'
