@@ -73,7 +73,7 @@ fn is_short(ending: &Ending) -> bool
 }
 
 // Writes how a run over the case with these options ended, be it for want of memory.
-fn give_solution<K: Sink>(
+pub(crate) fn give_solution<K: Sink>(
     alloc: Global,
     case: &Case,
     options: &Options,
