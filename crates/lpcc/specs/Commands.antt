@@ -1,5 +1,5 @@
 -- The commands of the program, and what a run of each says.
-use Rattle.std.specs.Prelude.{◌≡◌, ⊤, if◌then◌else◌, ℕ, true, false, List, [], ◌∷◌, ◌++◌, Option, Some, codes}
+use Rattle.std.specs.Prelude.{◌≡◌, ◌≤◌, ⊤, if◌then◌else◌, ℕ, true, false, List, [], ◌∷◌, ◌++◌, Option, Some, codes}
 use Rattle.lpcc_case.specs.Instance.{Instance}
 use Rattle.command.specs.Inputs.{SpellsAlone}
 use Rattle.command.specs.Runs.{IsRun}
@@ -16,13 +16,13 @@ use Rattle.words.specs.declared.command.Command.{Command}
 use Rattle.words.specs.declared.command.Command.TheVariants.{Check, Generate, Relax, Solve}
 use Rattle.words.specs.declared.command.Draft.{Draft}
 use Rattle.words.specs.declared.command.Settings.{Settings}
-use Rattle.words.specs.declared.command.TheConstants.{USUAL_PIECES, USUAL_PIVOTS}
+use Rattle.words.specs.declared.command.TheConstants.{MOST_WORKERS, USUAL_PIECES, USUAL_PIVOTS}
 
--- there is such a deck
+-- there is such a deck; there may be so many workers
 abbrev pub IsPossible : Command → Type 0
 IsPossible Check = ⊤
 IsPossible (Relax pivots) = ⊤
-IsPossible (Solve settings) = ⊤
+IsPossible (Solve settings) = (1 ≤ settings.workers) × (settings.workers ≤ MOST_WORKERS)
 IsPossible (Generate draft) = IsInRange draft.columns draft.rows draft.pairs
 
 -- the words are this command

@@ -9,6 +9,7 @@ use lp_io::{StdSink, StdSource};
 use run::run_called;
 use std::io;
 use std::process::ExitCode;
+use worker::NoGate;
 
 /// The words that the program was called with, its name first.
 fn called_words(rt: &HostRuntime) -> io::Result<Vec<String>> {
@@ -19,6 +20,13 @@ fn called_words(rt: &HostRuntime) -> io::Result<Vec<String>> {
 fn main(rt: HostRuntime) -> ExitCode {
     let mut source = StdSource::over(rt.reader());
     let mut sink = StdSink::over(io::writer(&rt));
-    let status = run_called(rt.alloc(), called_words(&rt), &mut source, &mut sink);
+    let status = run_called(
+        &rt,
+        rt.alloc(),
+        called_words(&rt),
+        &NoGate,
+        &mut source,
+        &mut sink,
+    );
     ExitCode::from(status)
 }

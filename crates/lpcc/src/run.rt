@@ -5,7 +5,7 @@ ghost use Rattle.deck_gen.specs.Generator.{IsInRange};
 ghost use Rattle.lpcc.specs.Answers.{Answers, IsUnread, words_refused};
 ghost use Rattle.lpcc.specs.Commands.{IsCommand, IsNoCommand, IsPossible, ReadsNothing, Runs, as_asked, by_one_worker, usual};
 ghost use Rattle.words.specs.declared.command.Command.{Command as Request};
-ghost use Rattle.words.specs.declared.command.Command.TheVariants.{Generate};
+ghost use Rattle.words.specs.declared.command.Command.TheVariants.{Generate, Solve};
 ghost use Rattle.words.specs.declared.command.Draft.{Draft as Plan};
 
 use command::{Status, give, give_no_memory};
@@ -14,11 +14,14 @@ use generating::{generate, generate_and_solve};
 use lp_io::{Sink, Source};
 use play::{Options, ShrinkMode, Workers};
 use relaxing::relax;
-use solving::run_solve;
+use solving::{run_solve, run_solve_with};
 use std::alloc::{AllocError, Global};
 use std::io;
+use std::sync::Wait;
+use std::thread::Threads;
 use verifier::{a_status_tells_the_answer, verify};
-use words::{Command, Draft, Settings, USUAL_PIECES, USUAL_PIVOTS, command_of};
+use words::{Command, Draft, MOST_WORKERS, Settings, USUAL_PIECES, USUAL_PIVOTS, command_of};
+use worker::Gate;
 
 /// The status where the words are no command.
 const NO_COMMAND: Status = 2;
@@ -27,7 +30,8 @@ fn is_possible(command: Command) -> bool
     ensures { IsTrue result ↔ IsPossible command }
 {
     match command {
-        Command::Check | Command::Relax(_) | Command::Solve(_) => true,
+        Command::Check | Command::Relax(_) => true,
+        Command::Solve(settings) => 1 <= settings.workers && settings.workers <= MOST_WORKERS,
         Command::Generate(draft) => in_range(draft.columns, draft.rows, draft.pairs),
     }
 }
@@ -143,31 +147,119 @@ pub fn run_alone<S: Source, K: Sink>(
     }
 }
 
-// Runs the program on the words behind the first, which is its name.
-fn run_behind_name<S: Source, K: Sink>(
+// The options as the words ask for them, where they ask for more than one worker.
+fn many_workers(settings: Settings) -> Option<Options>
+    requires { (1 ≤ settings.workers) × (settings.workers ≤ MOST_WORKERS) }
+    ensures { MatchOption result (settings.workers ≡ 1) (λ o. o ≡ as_asked settings) }
+{
+    if settings.workers == 1 {
+        return None;
+    }
+    let workers = Workers::from_number(settings.workers as u32)?;
+    Some(Options {
+        workers,
+        pieces: settings.pieces,
+        pivots: settings.pivots,
+        shrink: if settings.full {
+            ShrinkMode::Full
+        } else {
+            ShrinkMode::Off
+        },
+    })
+}
+
+// Runs `solve` with the workers that the words ask for.
+fn run_solve_as_asked<R: Threads + Wait + Sync, S: Source, K: Sink, G: Gate + Sync>(
+    rt: &R,
     alloc: Global,
-    called: &[String],
+    settings: Settings,
+    gate: &G,
     src: &mut S,
     out: &mut K,
 ) -> Status
-    ensures answers { Answers by_one_worker (drop 1 (map string_bytes called.now)) (S.left src.old) (S.faults src.old) (S.faults src.new)
+    requires { (1 ≤ settings.workers) × (settings.workers ≤ MOST_WORKERS) }
+    ensures { Runs as_asked (Solve settings) (S.left src.old) (S.faults src.old) (S.faults src.new)
+        (K.taken out.old) (K.taken out.new) (K.faults out.old) (K.faults out.new) result }
+{
+    match many_workers(settings) {
+        Some(options) => run_solve_with(rt, alloc, &options, settings.brief, gate, src, out),
+        None => run_solve(alloc, &options_of(settings), settings.brief, src, out),
+    }
+}
+
+fn run_command_as_asked<R: Threads + Wait + Sync, S: Source, K: Sink, G: Gate + Sync>(
+    rt: &R,
+    alloc: Global,
+    command: Command,
+    gate: &G,
+    src: &mut S,
+    out: &mut K,
+) -> Status
+    requires { IsPossible command }
+    ensures answered { Runs as_asked command (S.left src.old) (S.faults src.old) (S.faults src.new)
+        (K.taken out.old) (K.taken out.new) (K.faults out.old) (K.faults out.new) result }
+    ensures untouched { (d : Plan) → command ≡ Generate d → src.new ≡ src.old }
+{
+    match command {
+        Command::Check => verify(alloc, src, out),
+        Command::Relax(pivots) => relax(alloc, pivots, src, out),
+        Command::Solve(settings) => run_solve_as_asked(rt, alloc, settings, gate, src, out),
+        Command::Generate(draft) => run_draft(alloc, draft, out),
+    }
+}
+
+/// Runs the program on these words, those behind its name, as `run_alone` does, but `solve` with as
+/// many workers as the words name, each in a thread of its own but the first. What it promises holds
+/// if it returns.
+pub fn run<R: Threads + Wait + Sync, S: Source, K: Sink, G: Gate + Sync>(
+    rt: &R,
+    alloc: Global,
+    words: &[String],
+    gate: &G,
+    src: &mut S,
+    out: &mut K,
+) -> Status
+    ensures answers { Answers as_asked (map string_bytes words.now) (S.left src.old) (S.faults src.old) (S.faults src.new)
+        (K.taken out.old) (K.taken out.new) (K.faults out.old) (K.faults out.new) result }
+    ensures reads_nothing { ReadsNothing (map string_bytes words.now) → src.new ≡ src.old }
+{
+    a_status_tells_the_answer();
+    match command_in(alloc, words) {
+        Ok(Some(command)) => run_command_as_asked(rt, alloc, command, gate, src, out),
+        Ok(None) => refuse_words(out),
+        Err(_) => give_no_memory(out),
+    }
+}
+
+// Runs the program on the words behind the first, which is its name.
+fn run_behind_name<R: Threads + Wait + Sync, S: Source, K: Sink, G: Gate + Sync>(
+    rt: &R,
+    alloc: Global,
+    called: &[String],
+    gate: &G,
+    src: &mut S,
+    out: &mut K,
+) -> Status
+    ensures answers { Answers as_asked (drop 1 (map string_bytes called.now)) (S.left src.old) (S.faults src.old) (S.faults src.new)
         (K.taken out.old) (K.taken out.new) (K.faults out.old) (K.faults out.new) result }
     ensures reads_nothing { ReadsNothing (drop 1 (map string_bytes called.now)) → src.new ≡ src.old }
 {
     match called {
-        [] => run_alone(alloc, &[], src, out),
-        [_, words @ ..] => run_alone(alloc, words, src, out),
+        [] => run(rt, alloc, &[], gate, src, out),
+        [_, words @ ..] => run(rt, alloc, words, gate, src, out),
     }
 }
 
-/// Runs the program on the words that it was called with, its name first, as `run_alone` does.
-pub fn run_called<S: Source, K: Sink>(
+/// Runs the program on the words that it was called with, its name first, as `run` does.
+pub fn run_called<R: Threads + Wait + Sync, S: Source, K: Sink, G: Gate + Sync>(
+    rt: &R,
     alloc: Global,
     called: io::Result<Vec<String>>,
+    gate: &G,
     src: &mut S,
     out: &mut K,
 ) -> Status
-    ensures answers { IfOk called (λ words. Answers by_one_worker (drop 1 (map string_bytes words.items)) (S.left src.old) (S.faults src.old) (S.faults src.new)
+    ensures answers { IfOk called (λ words. Answers as_asked (drop 1 (map string_bytes words.items)) (S.left src.old) (S.faults src.old) (S.faults src.new)
         (K.taken out.old) (K.taken out.new) (K.faults out.old) (K.faults out.new) result) }
     ensures reads_nothing { IfOk called (λ words. ReadsNothing (drop 1 (map string_bytes words.items)) → src.new ≡ src.old) }
 
@@ -176,7 +268,7 @@ pub fn run_called<S: Source, K: Sink>(
     ensures untouched { OnErr called (src.new ≡ src.old) }
 {
     match called {
-        Ok(words) => run_behind_name(alloc, words.as_slice(), src, out),
+        Ok(words) => run_behind_name(rt, alloc, words.as_slice(), gate, src, out),
         Err(fault) => {
             if fault.kind() == io::ErrorKind::OutOfMemory {
                 give_no_memory(out)
