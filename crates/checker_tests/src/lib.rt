@@ -10,4 +10,6 @@ mod command_tests;
 #[cfg(test)]
 mod deck_tests;
 #[cfg(test)]
+mod group_tests;
+#[cfg(test)]
 mod layer_tests;

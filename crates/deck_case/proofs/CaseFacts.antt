@@ -6,19 +6,22 @@ use Rattle.std.specs.Option.{option_map}
 use Rattle.std.proofs.lemmas.Bool.{cases_Bool}
 use Rattle.std.proofs.lemmas.Int.{ints}
 use Rattle.std.proofs.lemmas.List.{get_or-map, length-map}
-use Rattle.std.proofs.lemmas.List.Elements.{All-nil, All-cons, All-head, All-tail, All-append, All-map, recursion_from_All}
+use Rattle.std.proofs.lemmas.List.Elements.{All-nil, All-cons, All-head, All-tail, All-append, All-map, All-from_recursion, recursion_from_All}
 use Rattle.std.proofs.lemmas.List.FromFn.{length-range_with_len, length-map-range_with_len, get_or-range_with_len, length-enumerate_from, get_or-enumerate_from}
 use Rattle.std.proofs.lemmas.Option.{slice_get_within, slice_get-get_or, get_or_from_slice_get}
 use Rattle.lp_base.specs.Ascending.{ascends_by, number_of}
 use Rattle.lp_nums.specs.Fractions.{Fraction}
 use Rattle.lpcc_case.specs.declared.constraint.Constraint.{Constraint}
+use Rattle.sense.specs.declared.objective.Sense.{Sense}
+use Rattle.sense.specs.Senses.{signed}
 use Rattle.lpcc_case.specs.Cases.{IsCase, IsConstraint, FitsCase, NamesInequality, instance_of}
 use Rattle.lpcc_case.specs.Points.{coefficient}
-use Rattle.decks.specs.Decks.{IsDeck, IsDeckNumber, IsColumn, entries_of}
+use Rattle.decks.specs.Decks.{IsDeck, IsDeckNumber, IsColumn, NamesQuantity, entries_of, group_pairs, pairs_made, twos}
 use Rattle.decks.specs.declared.deck.Bound.{Bound}
 use Rattle.decks.specs.declared.deck.Column.{Column}
 use Rattle.decks.specs.declared.deck.Deck.{Deck}
 use Rattle.decks.specs.declared.deck.Entry.{Entry}
+use Rattle.decks.specs.declared.deck.GroupLine.{GroupLine}
 use Rattle.decks.specs.declared.deck.Letter.{Letter}
 use Rattle.decks.specs.declared.deck.Letter.TheVariants.{N, E, L, G}
 use Rattle.decks.specs.declared.deck.Row.{Row}
@@ -30,7 +33,9 @@ use Rattle.deck_case.specs.Sides.{sides}
 use Rattle.deck_case.specs.Wide.{has_wide, is_wide, judged_numbers, named, whole_numbers, wide_bound, wide_column, wide_lines, wide_row, wide_rows}
 use Rattle.deck_case.proofs.BodySteps.{row_at_is}
 use Rattle.deck_case.proofs.CostSteps.{coefficient_keeps}
+use Rattle.deck_case.proofs.GroupSteps.{Both, both_of_twos}
 use Rattle.deck_case.proofs.Places.{side_named}
+use Rattle.deck_case.proofs.SignLaws.{signed_fits}
 use Rattle.deck_case.proofs.Rising.{ascends-map}
 use Rattle.deck_case.proofs.RowSteps.{entries_cleared, made_of, not_wide, or_left_false, or_right_false, row_positive}
 use Rattle.deck_case.proofs.TermFacts.{entries_named, row_numbers, terms_ascend, terms_named, terms_nonzero, without_range}
@@ -260,7 +265,41 @@ objective_numbers d h =
 values_fit : (ts : Terms) → has_wide (coefficients ts) ≡ false → All (λ t. FitsCase t.1) ts
 values_fit ts h i d l = subst FitsCase (get_or-map (λ (t : ℕ × ℤ). t.1) ts i d d.1 l) (all_fit (coefficients ts) h i d.1 (omega (arith, length-map ts (λ (t : ℕ × ℤ). t.1))))
 
+-- ---- pairs
+
+pub made_named : (d : Deck) → IsDeck d → All (Both (NamesQuantity d)) (pairs_made d)
+made_named d h =
+    All-append (Both (NamesQuantity d)) d.pairs (group_pairs d.groups) h.pairs_named
+    (All-flat_map (Both (NamesQuantity d)) (λ (g : GroupLine). twos g.items) d.groups (λ i g l.
+    let items = (get_or d.groups i g).items in
+    All-from_recursion (Both (NamesQuantity d)) (twos items) (both_of_twos (NamesQuantity d) items (recursion_from_All (NamesQuantity d) items (h.groups_named i g l)))))
+
 -- ---- the case
+
+all_signed : (s : Sense) (costs : List ℤ) → All FitsCase costs → All (λ z. FitsCase (signed s z)) costs
+all_signed s costs h i z l = signed_fits s (get_or costs i z) (h i z l)
+
+-- the numbers of the objective are those of a case, whatever their signs
+pub record HasNarrowObjective (d : Deck) : Type 0 where
+  pub costs : All FitsCase (cost_of (length d.columns) (entries_of d.entries d.objective) (row_at d d.objective))
+  pub scale : FitsCase (pos (scale_of (entries_of d.entries d.objective) (row_at d d.objective)))
+  pub offset : FitsCase (offset_of (entries_of d.entries d.objective) (row_at d d.objective))
+
+pub narrow_objective : (d : Deck) → IsDeck d → wide_rows d.entries (enumerate_from 0 d.rows) ≡ [] → HasNarrowObjective d
+narrow_objective d h rows =
+    let es = entries_of d.entries d.objective in
+    let r = row_at d d.objective in
+    let n = length d.columns in
+    let quiet = objective_quiet d h rows in
+    let all = all_fit (judged_numbers N es r) quiet in
+    let rest = All-tail FitsCase (pos (scale_of es r)) (offset_of es r ∷ coefficients (cost_terms es r)) all in
+    let small = or_right_false (is_wide (offset_of es r)) (has_wide (coefficients (cost_terms es r))) (or_right_false (is_wide (pos (scale_of es r))) (is_wide (offset_of es r) || has_wide (coefficients (cost_terms es r))) quiet) in
+    let ts = cost_terms es r in
+    record {
+      costs = All-map FitsCase (coefficient ts) (range_with_len 0 n) (all_below (λ j. FitsCase (coefficient ts j)) n (λ j _. coefficient_keeps FitsCase ts j (omega arith) (terms_ascend (scale_of es r) es (h.ascending d.objective)) (recursion_from_All (λ t. FitsCase t.1) ts (values_fit ts small))));
+      scale = All-head FitsCase (pos (scale_of es r)) (offset_of es r ∷ coefficients (cost_terms es r)) all;
+      offset = All-head FitsCase (offset_of es r) (coefficients (cost_terms es r)) rest;
+    }
 
 pub is_case : (d : Deck) → IsDeck d → wide_lines d ≡ [] → length (constraints_of d) ≤ 2000 → IsCase (case_of_deck d)
 is_case d h none few =
@@ -269,37 +308,27 @@ is_case d h none few =
     let n = length d.columns in
     let rows = nil_left (wide_rows d.entries (enumerate_from 0 d.rows)) (flat_map wide_column d.columns) none in
     let columns = nil_right (wide_rows d.entries (enumerate_from 0 d.rows)) (flat_map wide_column d.columns) none in
-    let quiet = objective_quiet d h rows in
-    let all = all_fit (judged_numbers N es r) quiet in
-    let scale : FitsCase (pos (scale_of es r)) = All-head FitsCase (pos (scale_of es r)) (offset_of es r ∷ coefficients (cost_terms es r)) all in
-    let rest = All-tail FitsCase (pos (scale_of es r)) (offset_of es r ∷ coefficients (cost_terms es r)) all in
-    let offset : FitsCase (offset_of es r) = All-head FitsCase (offset_of es r) (coefficients (cost_terms es r)) rest in
-    let small = or_right_false (is_wide (offset_of es r)) (has_wide (coefficients (cost_terms es r))) (or_right_false (is_wide (pos (scale_of es r))) (is_wide (offset_of es r) || has_wide (coefficients (cost_terms es r))) quiet) in
-    let ts = cost_terms es r in
+    let objective = narrow_objective d h rows in
     record {
       few_columns = h.few_columns;
       few_constraints = few;
-      few_pairs = omega (arith, length-map d.pairs (pair_of d), h.few_pairs);
-      cost_length = length-map-range_with_len (coefficient ts) 0 n;
-      costs = All-map FitsCase (coefficient ts) (range_with_len 0 n) (all_below (λ j. FitsCase (coefficient ts j)) n (λ j _. coefficient_keeps FitsCase ts j (omega arith) (terms_ascend (scale_of es r) es (h.ascending d.objective)) (recursion_from_All (λ t. FitsCase t.1) ts (values_fit ts small))));
+      few_pairs = omega (arith, length-map (pairs_made d) (pair_of d), h.few_pairs);
+      cost_length = length-map (cost_of n es r) (signed d.sense) ∙ length-map-range_with_len (coefficient (cost_terms es r)) 0 n;
+      costs = All-map FitsCase (signed d.sense) (cost_of n es r) (all_signed d.sense (cost_of n es r) objective.costs);
       scale_positive = omega (arith, ints, row_positive r.rhs None es (scale_of es r) (objective_numbers d h) refl);
-      scale = scale;
-      offset = offset;
+      scale = objective.scale;
+      offset = signed_fits d.sense (offset_of es r) objective.offset;
       constraints = All-append (IsConstraint n) (row_constraints d) (column_constraints d) (rows_fit d h rows) (columns_fit d h columns);
-      pairs = All-map (λ p. NamesInequality (constraints_of d) p.0 × NamesInequality (constraints_of d) p.1) (pair_of d) d.pairs (λ i p l.
-          let names = h.pairs_named i p l in
-          (side_named d (get_or d.pairs i p).a names.0, side_named d (get_or d.pairs i p).b names.1));
+      pairs = All-map (λ p. NamesInequality (constraints_of d) p.0 × NamesInequality (constraints_of d) p.1) (pair_of d) (pairs_made d) (λ i p l.
+          let names = made_named d h i p l in
+          (side_named d (get_or (pairs_made d) i p).a names.0, side_named d (get_or (pairs_made d) i p).b names.1));
     }
 
 -- the same of equal parts
-pub is_case_of_parts : (d : Deck) (n : ℕ) (cost : List ℤ) (scale offset : ℤ) (constraints : List Constraint) (pairs : List (ℕ × ℕ)) → IsDeck d → wide_lines d ≡ [] → length constraints ≤ 2000 → n ≡ length d.columns → cost ≡ cost_of (length d.columns) (entries_of d.entries d.objective) (row_at d d.objective) → scale ≡ pos (scale_of (entries_of d.entries d.objective) (row_at d d.objective)) → offset ≡ offset_of (entries_of d.entries d.objective) (row_at d d.objective) → constraints ≡ constraints_of d → pairs ≡ map (pair_of d) d.pairs → IsCase (instance_of n cost scale offset constraints pairs)
+pub is_case_of_parts : (d : Deck) (n : ℕ) (cost : List ℤ) (scale offset : ℤ) (constraints : List Constraint) (pairs : List (ℕ × ℕ)) → IsDeck d → wide_lines d ≡ [] → length constraints ≤ 2000 → n ≡ length d.columns
+    → cost ≡ map (signed d.sense) (cost_of (length d.columns) (entries_of d.entries d.objective) (row_at d d.objective)) → scale ≡ pos (scale_of (entries_of d.entries d.objective) (row_at d d.objective))
+    → offset ≡ signed d.sense (offset_of (entries_of d.entries d.objective) (row_at d d.objective)) → constraints ≡ constraints_of d → pairs ≡ map (pair_of d) (pairs_made d) → IsCase (instance_of n cost scale offset d.sense constraints pairs)
 is_case_of_parts d n cost scale offset constraints pairs h none few en ec es eo er ep =
     let target = is_case d h none (omega (arith, few, ap length er)) in
-    let same : case_of_deck d ≡ instance_of n cost scale offset constraints pairs =
-    ap (λ x. instance_of x (cost_of (length d.columns) (entries_of d.entries d.objective) (row_at d d.objective)) (pos (scale_of (entries_of d.entries d.objective) (row_at d d.objective))) (offset_of (entries_of d.entries d.objective) (row_at d d.objective)) (constraints_of d) (map (pair_of d) d.pairs)) (sym en)
-    ∙ ap (λ x. instance_of n x (pos (scale_of (entries_of d.entries d.objective) (row_at d d.objective))) (offset_of (entries_of d.entries d.objective) (row_at d d.objective)) (constraints_of d) (map (pair_of d) d.pairs)) (sym ec)
-    ∙ ap (λ x. instance_of n cost x (offset_of (entries_of d.entries d.objective) (row_at d d.objective)) (constraints_of d) (map (pair_of d) d.pairs)) (sym es)
-    ∙ ap (λ x. instance_of n cost scale x (constraints_of d) (map (pair_of d) d.pairs)) (sym eo)
-    ∙ ap (λ x. instance_of n cost scale offset x (map (pair_of d) d.pairs)) (sym er)
-    ∙ ap (λ x. instance_of n cost scale offset constraints x) (sym ep) in
+    let same : case_of_deck d ≡ instance_of n cost scale offset d.sense constraints pairs = sym (λ i. instance_of (en i) (ec i) (es i) (eo i) d.sense (er i) (ep i)) in
     subst IsCase same target

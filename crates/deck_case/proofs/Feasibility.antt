@@ -1,13 +1,15 @@
 -- The points that are feasible for the case are those that the deck allows.
 use Rattle.std.proofs.Common.{ℕ, zero, suc, ◌<◌, ◌≡◌, refl, sym, ap, subst, ◌∙◌, inl, inr, arith, ℤ, pos, neg_ℤ, ◌*ℤ◌, ◌≤ℤ◌, List, [], ◌∷◌, ◌++◌, Bool, true, false, cond, length, get_or, map, Option, None, Some, All, slice_get}
 use Rattle.std.specs.Prelude.{◌↔◌, ◌⊎◌, IfSome}
-use Rattle.std.specs.List.{enumerate_from, flat_map}
+use Rattle.std.specs.List.{AllByRecursion, enumerate_from, flat_map}
+use Rattle.std.specs.Ordering.{int_eq}
 use Rattle.std.specs.Option.{option_map, option_to_list}
 use Rattle.std.proofs.Math.IntN.{+ℤ_idr, zero-*ℤ}
-use Rattle.std.proofs.lemmas.Bool.{cases_eq}
+use Rattle.std.proofs.lemmas.Bool.{cases_Bool, cases_eq, true≢false}
+use Rattle.std.proofs.lemmas.Bool.Decides.{Decides-int_eq}
 use Rattle.std.proofs.lemmas.Int.{ints}
 use Rattle.std.proofs.lemmas.List.{get_or-map, length-map}
-use Rattle.std.proofs.lemmas.List.Elements.{All-nil, All-cons, All-head, All-append, All-map}
+use Rattle.std.proofs.lemmas.List.Elements.{All-nil, All-cons, All-head, All-append, All-map, All-from_recursion, recursion_from_All}
 use Rattle.std.proofs.lemmas.List.FromFn.{get_or-enumerate_from, length-enumerate_from}
 use Rattle.std.proofs.lemmas.Option.{slice_get_within, slice_get-get_or, get_or_from_slice_get, same_Some}
 use Rattle.lp_base.proofs.Ring.{mul_comm}
@@ -15,19 +17,21 @@ use Rattle.lp_nums.specs.Fractions.{Fraction, SameValue}
 use Rattle.lpcc_case.specs.declared.constraint.Constraint.{Constraint}
 use Rattle.lpcc_case.specs.Instance.{constraint_at, no_constraint}
 use Rattle.lpcc_case.specs.Points.{Point, IsFeasible, IsTight, Meets, left_side}
-use Rattle.decks.specs.Decks.{IsColumn, IsDeck, NamesQuantity, entries_of}
+use Rattle.decks.specs.Decks.{IsColumn, IsDeck, NamesQuantity, entries_of, group_pairs, pairs_made, twos}
 use Rattle.decks.specs.Decks as decks
 use Rattle.decks.specs.declared.deck.Column.{Column}
 use Rattle.decks.specs.declared.deck.Deck.{Deck}
 use Rattle.decks.specs.declared.deck.Entry.{Entry}
+use Rattle.decks.specs.declared.deck.GroupLine.{GroupLine}
+use Rattle.decks.specs.declared.deck.PairLine.{PairLine}
 use Rattle.decks.specs.declared.deck.Letter.{Letter}
 use Rattle.decks.specs.declared.deck.Letter.TheVariants.{N, E, L, G}
 use Rattle.decks.specs.declared.deck.Quantity.{Quantity}
-use Rattle.decks.specs.declared.deck.Quantity.TheVariants.{Col, Row}
+use Rattle.decks.specs.declared.deck.Quantity.TheVariants.{Col, Upc, Row}
 use Rattle.decks.specs.declared.deck.Row as rows
 use Rattle.deck_case.specs.CaseParts.{Terms, at_least, at_most, between_ends, column_constraints, constraints_of, constraints_of_column, constraints_of_row, equal_to, fixed_at, for_bound, lower_bound, negated, row_constraints, row_multiplier, terms_of, upper_bound}
 use Rattle.deck_case.specs.DeckCases.{case_of_deck, pair_of, side_number}
-use Rattle.deck_case.specs.DeckPoints.{IsWithin, IsZeroAt, MeetsDeck, column_value, row_value}
+use Rattle.deck_case.specs.DeckPoints.{IsOneOffAt, IsWithin, IsZeroAt, MeetsDeck, column_value, row_value}
 use Rattle.deck_case.specs.Multipliers.{times}
 use Rattle.deck_case.specs.Rationals.{IsAtMost, minus, plus, size, total}
 use Rattle.deck_case.specs.Sides.{between, reaches_down, sides}
@@ -36,7 +40,8 @@ use Rattle.deck_case.proofs.BodySteps.{letter_of_objective}
 use Rattle.deck_case.proofs.CaseFacts.{All-flat_map, numbered_at}
 use Rattle.deck_case.proofs.DeckMeaning.{IsRowSum, row_sum, values_at}
 use Rattle.deck_case.proofs.MultiplierSteps.{All-left, All-right}
-use Rattle.deck_case.proofs.Places.{column_side_at, row_side_at, side_of, side_row}
+use Rattle.deck_case.proofs.GroupSteps.{Both, Decided, Either, both_of_twos, one_off_from, one_off_to}
+use Rattle.deck_case.proofs.Places.{column_side_at, row_side_at, side_of, side_row, upper_side_at}
 use Rattle.deck_case.proofs.RationalLaws.{IsWhole, at_most_iff, over_whole, same_iff, whole_above, whole_below, whole_cleared}
 use Rattle.deck_case.proofs.RowSteps.{entries_cleared, made_of, range_cleared, rhs_cleared, row_positive}
 use Rattle.deck_case.proofs.SideSteps.{negated_product}
@@ -300,31 +305,105 @@ row_zero d p i r h there =
       λ z. iff.1 (z r there),
     )
 
+upper_tight : {n : ℕ} (p : Point n) (j : ℕ) (f : Fraction) → IsTight p (upper_bound j f) ↔ SameValue (column_value p j) f
+upper_tight p j f =
+    let u = f.num *ℤ pos p.d in
+    let w = get_or p.x j (pos 0) *ℤ f.den in
+    let side : left_side ((j, neg_ℤ f.den) ∷ []) p.x ≡ neg_ℤ w = left_negated ((j, f.den) ∷ []) p.x ∙ ap neg_ℤ (one_term f.den p.x j) in
+    chain (by_equal (λ l r. l ≡ r) (left_side ((j, neg_ℤ f.den) ∷ []) p.x) (neg_ℤ f.num *ℤ pos p.d) (neg_ℤ w) (neg_ℤ u) side (negated_product f.num (pos p.d))) (turned_same w u)
+
+upper_zero : (d : Deck) (p : Point (length d.columns)) (j : ℕ) (c : Column) (f : Fraction) → slice_get d.columns j ≡ Some c → c.upper.value ≡ Some f → IsTight p (upper_bound j f) ↔ IsZeroAt d p (Upc j)
+upper_zero d p j c f there upper =
+    let iff = upper_tight p j f in (
+      λ t b v e g.
+          let same : c ≡ b = same_Some c b (sym there ∙ e) in
+          let end : f ≡ v = same_Some f v (sym upper ∙ ap (λ (x : Column). x.upper.value) same ∙ g) in
+          subst (λ (x : Fraction). SameValue (column_value p j) x) end (iff.0 t),
+      λ z. iff.1 (z c f there upper),
+    )
+
 side_tight : (d : Deck) (p : Point (length d.columns)) (q : Quantity) → IsDeck d → NamesQuantity d q → IsTight p (constraint_at (case_of_deck d) (side_number d q)) ↔ IsZeroAt d p q
 side_tight d p (Col j) h n = at_read d p (side_number d (Col j)) (lower_bound j decks.zero) (IsZeroAt d p (Col j)) (column_side_at d j n.0 decks.zero n.1 n.2 n.3) (zero_iff p j)
+side_tight d p (Upc j) h n = at_read d p (side_number d (Upc j)) (upper_bound j n.3.0) (IsZeroAt d p (Upc j)) (upper_side_at d j n.0 n.3.0 n.1 n.2 n.3.1) (upper_zero d p j n.0 n.3.0 n.1 n.3.1)
 side_tight d p (Row i) h n = at_read d p (side_number d (Row i)) (side_row d i n.0) (IsZeroAt d p (Row i)) (row_side_at d i n.0 n.1 n.2) (row_zero d p i n.0 h n.1)
 
 both : {A B C D : Type 0} → (A → C) → (B → D) → A ⊎ B → C ⊎ D
 both f g (inl a) = inl (f a)
 both f g (inr b) = inr (g b)
 
+-- ---- groups
+
+decided_by : {A B : Type 0} → A ↔ B → A ⊎ (A → ⊥) → B ⊎ (B → ⊥)
+decided_by iff (inl a) = inl (iff.0 a)
+decided_by iff (inr none) = inr (λ b. none (iff.1 b))
+
+same_or_not : (a b : ℤ) → (a ≡ b) ⊎ (a ≡ b → ⊥)
+same_or_not a b =
+    elim (cases_Bool (int_eq a b)) [
+      | inl yes_same ↦ inl ((Decides-int_eq a b).0 yes_same)
+      | inr other ↦ inr (λ e. true≢false (sym ((Decides-int_eq a b).1 e) ∙ other))
+    ]
+
+zero_decided : (d : Deck) (p : Point (length d.columns)) → IsDeck d → (q : Quantity) → NamesQuantity d q → Decided (IsZeroAt d p) q
+zero_decided d p h q n =
+    let c = constraint_at (case_of_deck d) (side_number d q) in
+    decided_by (side_tight d p q h n) (same_or_not (left_side c.terms p.x) (c.rhs *ℤ pos p.d))
+
+-- a pair of the case is met
+abbrev IsMet : (d : Deck) → Point (length d.columns) → PairLine → Type 0
+IsMet d p q = IsTight p (constraint_at (case_of_deck d) (side_number d q.a)) ⊎ IsTight p (constraint_at (case_of_deck d) (side_number d q.b))
+
+met_zero : (d : Deck) (p : Point (length d.columns)) (q : PairLine) → IsDeck d → NamesQuantity d q.a → NamesQuantity d q.b → IsMet d p q → Either (IsZeroAt d p) q
+met_zero d p q h a b = both (side_tight d p q.a h a).0 (side_tight d p q.b h b).0
+
+zero_met : (d : Deck) (p : Point (length d.columns)) (q : PairLine) → IsDeck d → NamesQuantity d q.a → NamesQuantity d q.b → Either (IsZeroAt d p) q → IsMet d p q
+zero_met d p q h a b = both (side_tight d p q.a h a).1 (side_tight d p q.b h b).1
+
+-- what each element of two lists has
+both_lists : {X : Type 0} (P Q R : X → Type 0) (f : (x : X) → P x → Q x → R x) (xs : List X) → AllByRecursion P xs → AllByRecursion Q xs → AllByRecursion R xs
+both_lists P Q R f [] a b = tt
+both_lists P Q R f (x ∷ xs) a b = (f x a.0 b.0, both_lists P Q R f xs a.1 b.1)
+
+each_list : {X : Type 0} (P Q : X → Type 0) (f : (x : X) → P x → Q x) (xs : List X) → AllByRecursion P xs → AllByRecursion Q xs
+each_list P Q f [] a = tt
+each_list P Q f (x ∷ xs) a = (f x a.0, each_list P Q f xs a.1)
+
+group_of_case : (d : Deck) (p : Point (length d.columns)) (items : List Quantity) → IsDeck d → All (NamesQuantity d) items → All (IsMet d p) (twos items) → IsOneOffAt d p items
+group_of_case d p items h named met =
+    one_off_from (IsZeroAt d p) items
+    (both_lists (Both (NamesQuantity d)) (IsMet d p) (Either (IsZeroAt d p)) (λ q n m. met_zero d p q h n.0 n.1 m) (twos items) (both_of_twos (NamesQuantity d) items (recursion_from_All (NamesQuantity d) items named)) (recursion_from_All (IsMet d p) (twos items) met))
+
+group_of_deck : (d : Deck) (p : Point (length d.columns)) (items : List Quantity) → IsDeck d → All (NamesQuantity d) items → IsOneOffAt d p items → All (IsMet d p) (twos items)
+group_of_deck d p items h named off =
+    let names = recursion_from_All (NamesQuantity d) items named in
+    let zeros = one_off_to (IsZeroAt d p) items (each_list (NamesQuantity d) (Decided (IsZeroAt d p)) (zero_decided d p h) items names) off in
+    All-from_recursion (IsMet d p) (twos items)
+    (both_lists (Both (NamesQuantity d)) (Either (IsZeroAt d p)) (IsMet d p) (λ q n z. zero_met d p q h n.0 n.1 z) (twos items) (both_of_twos (NamesQuantity d) items names) zeros)
+
+abbrev twos_of : GroupLine → List PairLine
+twos_of g = twos g.items
+
+-- ---- the law
+
 pub feasible_law : (d : Deck) (p : Point (length d.columns)) → IsDeck d → IsFeasible (case_of_deck d) p ↔ MeetsDeck d p
 feasible_law d p h =
     let a = case_of_deck d in
-    let IsMet = λ (pair : ℕ × ℕ). IsTight p (constraint_at a pair.0) ⊎ IsTight p (constraint_at a pair.1) in (
-      λ f. record {
-        rows = λ k r there _. row_of_case d p h (All-left (Meets p) (row_constraints d) (column_constraints d) f.met) k r there;
-        columns = column_of_case d p h (All-right (Meets p) (row_constraints d) (column_constraints d) f.met);
-        pairs = λ i q l.
-            let names = h.pairs_named i q l in
-            let pair = get_or d.pairs i q in
-            both (side_tight d p pair.a h names.0).0 (side_tight d p pair.b h names.1).0 (All-unmap IsMet (pair_of d) d.pairs f.complementary i q l);
-      },
-      λ m. record {
-        met = All-append (Meets p) (row_constraints d) (column_constraints d) (rows_of_deck d p h m) (columns_of_deck d p h m);
-        complementary = All-map IsMet (pair_of d) d.pairs (λ i q l.
-            let names = h.pairs_named i q l in
-            let pair = get_or d.pairs i q in
-            both (side_tight d p pair.a h names.0).1 (side_tight d p pair.b h names.1).1 (m.pairs i q l));
-      },
+    let IsPairMet = λ (pair : ℕ × ℕ). IsTight p (constraint_at a pair.0) ⊎ IsTight p (constraint_at a pair.1) in (
+      λ f.
+          let all : All (IsMet d p) (pairs_made d) = All-unmap IsPairMet (pair_of d) (pairs_made d) f.complementary in
+          let own = All-left (IsMet d p) d.pairs (group_pairs d.groups) all in
+          let grouped = All-right (IsMet d p) d.pairs (group_pairs d.groups) all in
+          record {
+            rows = λ k r there _. row_of_case d p h (All-left (Meets p) (row_constraints d) (column_constraints d) f.met) k r there;
+            columns = column_of_case d p h (All-right (Meets p) (row_constraints d) (column_constraints d) f.met);
+            pairs = λ i q l. let names = h.pairs_named i q l in met_zero d p (get_or d.pairs i q) h names.0 names.1 (own i q l);
+            groups = λ i g l. group_of_case d p (get_or d.groups i g).items h (h.groups_named i g l) (All-piece (IsMet d p) twos_of d.groups i g grouped l);
+          },
+      λ m.
+          let own : All (IsMet d p) d.pairs = λ i q l. (let names = h.pairs_named i q l in zero_met d p (get_or d.pairs i q) h names.0 names.1 (m.pairs i q l)) in
+          let grouped : All (IsMet d p) (group_pairs d.groups) = All-flat_map (IsMet d p) twos_of d.groups (λ i g l. group_of_deck d p (get_or d.groups i g).items h (h.groups_named i g l) (m.groups i g l)) in
+          record {
+            met = All-append (Meets p) (row_constraints d) (column_constraints d) (rows_of_deck d p h m) (columns_of_deck d p h m);
+            complementary = All-map IsPairMet (pair_of d) (pairs_made d) (All-append (IsMet d p) d.pairs (group_pairs d.groups) own grouped);
+          },
     )

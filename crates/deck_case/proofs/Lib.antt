@@ -13,6 +13,8 @@ pub mod TermFacts
 pub mod BodySteps
 pub mod Places
 pub mod PairSteps
+pub mod GroupSteps
+pub mod SignLaws
 pub mod CaseFacts
 pub mod RationalLaws
 pub mod CostSums

@@ -16,11 +16,12 @@ use Rattle.decks.specs.declared.deck.Entry.{Entry}
 use Rattle.decks.specs.declared.deck.Letter.{Letter}
 use Rattle.decks.specs.declared.deck.Letter.TheVariants.{N, E, L, G}
 use Rattle.decks.specs.declared.deck.Quantity.{Quantity}
-use Rattle.decks.specs.declared.deck.Quantity.TheVariants.{Col, Row}
+use Rattle.decks.specs.declared.deck.Quantity.TheVariants.{Col, Upc, Row}
 use Rattle.decks.specs.declared.deck.Row as rows
 use Rattle.deck_case.specs.CaseParts.{Terms, at_least, at_most, column_constraints, constraints_of, constraints_of_column, constraints_of_columns, constraints_of_row, fixed_at, for_bound, lower_bound, upper_bound, row_constraints, row_multiplier, terms_of}
-use Rattle.deck_case.specs.DeckCases.{before_row, is_upper, side_number, side_place}
-use Rattle.deck_case.specs.DeckPoints.{row_at}
+use Rattle.deck_case.specs.DeckCases.{before_column, before_row, is_upper, side_number, side_place, upper_place}
+use Rattle.decks.specs.Bounds.{default_column}
+use Rattle.deck_case.specs.DeckPoints.{column_at, row_at}
 use Rattle.deck_case.specs.Multipliers.{times}
 use Rattle.deck_case.proofs.BodySteps.{row_at_is}
 use Rattle.deck_case.proofs.Numbered.{flat-split, numbered_more}
@@ -127,9 +128,34 @@ column_side_at d j c f there free lower =
     let plain : slice_get (column_constraints d) (length front) ≡ Some (lower_bound j f) = ap (slice_get (column_constraints d)) (omega arith) ∙ made in
     get_behind rows (column_constraints d) (length front) (lower_bound j f) plain
 
+upper_made : (j : ℕ) (c : Column) (f : Fraction) → c.fixed ≡ false → c.upper.value ≡ Some f → slice_get (constraints_of_column j c) (upper_place c) ≡ Some (upper_bound j f)
+upper_made j c f free upper = by_parts c.fixed c.lower.value c.upper.value free upper
+  where
+    by_parts : (fixed : Bool) (lower upper : Option Fraction) → fixed ≡ false → upper ≡ Some f
+        → slice_get (cond fixed (for_bound (fixed_at j) lower) (for_bound (lower_bound j) lower ++ for_bound (upper_bound j) upper)) (cond (is_some lower) 1 0) ≡ Some (upper_bound j f)
+    by_parts true lower upper e g = absurd (cc)
+    by_parts false None upper e g = ap (λ (o : Option Fraction). slice_get (for_bound (upper_bound j) o) 0) g
+    by_parts false (Some x) upper e g = ap (λ (o : Option Fraction). slice_get (lower_bound j x ∷ for_bound (upper_bound j) o) 1) g
+
+pub column_at_is : (d : Deck) (j : ℕ) (c : Column) → slice_get d.columns j ≡ Some c → column_at d j ≡ c
+column_at_is d j c e = get_or_from_slice_get d.columns j c default_column e
+
+pub upper_side_at : (d : Deck) (j : ℕ) (c : Column) (f : Fraction) → slice_get d.columns j ≡ Some c → c.fixed ≡ false → c.upper.value ≡ Some f → slice_get (constraints_of d) (side_number d (Upc j)) ≡ Some (upper_bound j f)
+upper_side_at d j c f there free upper =
+    let rows = row_constraints d in
+    let front = constraints_of_columns (take j (enumerate_from 0 d.columns)) in
+    let made : slice_get (column_constraints d) (length front + upper_place c) ≡ Some (upper_bound j f) = get_made column_made d.columns j c (upper_place c) (upper_bound j f) there (upper_made j c f free upper) in
+    ap (λ n. slice_get (constraints_of d) (before_column d j + n)) (ap upper_place (column_at_is d j c there))
+    ∙ ap (slice_get (constraints_of d)) (regrouped (length rows) (length front) (upper_place c))
+    ∙ get_behind rows (column_constraints d) (length front + upper_place c) (upper_bound j f) made
+  where
+    regrouped : (a b c : ℕ) → (a + b) + c ≡ a + (b + c)
+    regrouped a b c = omega arith
+
 -- the number of a side is there, and names an inequality
 pub side_named : (d : Deck) (q : Quantity) → NamesQuantity d q → NamesInequality (constraints_of d) (side_number d q)
 side_named d (Col j) h = (lower_bound j decks.zero, column_side_at d j h.0 decks.zero h.1 h.2 h.3, refl)
+side_named d (Upc j) h = (upper_bound j h.3.0, upper_side_at d j h.0 h.3.0 h.1 h.2 h.3.1, refl)
 side_named d (Row i) h = (side_row d i h.0, row_side_at d i h.0 h.1 h.2, side_kind h.0.letter (terms_of (row_multiplier (entries_of d.entries i) h.0) (entries_of d.entries i)) (times (row_multiplier (entries_of d.entries i) h.0) h.0.rhs))
 
 pub side_within : (d : Deck) (q : Quantity) → NamesQuantity d q → side_number d q < length (constraints_of d)

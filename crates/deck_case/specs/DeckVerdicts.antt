@@ -1,7 +1,9 @@
--- Under `yes`: the verdicts on a deck, and when each is true, in the deck's own words: rows with their sides, bounds, pairs, and the
--- objective with its constant, all in fractions. They know nothing of multipliers and of lists of constraints.
+-- Under `yes`: the verdicts on a deck, and when each is true, in the deck's own words: rows with their sides, bounds, pairs, groups, and
+-- the objective with its constant and its sense, all in fractions. They know nothing of multipliers and of lists of constraints.
 use Rattle.std.specs.Prelude.{ℤ, pos, ◌≤ℤ◌, [], length}
 use Rattle.lp_nums.specs.Fractions.{Fraction, SameValue}
+use Rattle.sense.specs.declared.objective.Sense.{Sense}
+use Rattle.sense.specs.declared.objective.Sense.TheVariants.{Min, Max}
 use Rattle.lpcc_case.specs.Instance.{Instance}
 use Rattle.lpcc_case.specs.Points.{Point}
 use Rattle.lpcc_case.specs.declared.verdict.Verdict.{Verdict}
@@ -17,24 +19,34 @@ value_at d p = objective_value d (row_at d d.objective) p
 abbrev pub whole : ℤ → Fraction
 whole z = record { num = z; den = pos 1 }
 
--- a point that meets the deck has this value, and each point that meets it has at least this value
-pub record IsLeastValue (d : Deck) (value : Fraction) : Type 0 where
+-- a value is not better than another: not lower where the objective is to be least, and not higher where it is to be greatest
+abbrev pub IsNotBetter : Sense → Fraction → Fraction → Type 0
+IsNotBetter Min value best = IsAtMost best value
+IsNotBetter Max value best = IsAtMost value best
+
+-- a value is better than another
+abbrev pub IsBetter : Sense → Fraction → Fraction → Type 0
+IsBetter Min value other = IsBelow value other
+IsBetter Max value other = IsBelow other value
+
+-- a point that meets the deck has this value, and no point that meets it has a better one
+pub record IsBestValue (d : Deck) (value : Fraction) : Type 0 where
   pub positive : pos 1 ≤ℤ value.den
   pub point : Point (length d.columns)
   pub met : MeetsDeck d point
   pub same : SameValue (value_at d point) value
-  pub least : (q : Point (length d.columns)) → MeetsDeck d q → IsAtMost value (value_at d q)
+  pub best : (q : Point (length d.columns)) → MeetsDeck d q → IsNotBetter d.sense (value_at d q) value
 
 abbrev pub IsTrueOfDeck : Deck → Verdict → Type 0
-IsTrueOfDeck d (Optimal value) = IsLeastValue d value
+IsTrueOfDeck d (Optimal value) = IsBestValue d value
 IsTrueOfDeck d Infeasible = (p : Point (length d.columns)) → MeetsDeck d p → ⊥
--- below each whole number lies the value of a point that meets the deck
-IsTrueOfDeck d Unbounded = (bound : ℤ) → (p : Point (length d.columns)) × MeetsDeck d p × IsBelow (value_at d p) (whole bound)
+-- better than each whole number is the value of a point that meets the deck
+IsTrueOfDeck d Unbounded = (bound : ℤ) → (p : Point (length d.columns)) × MeetsDeck d p × IsBetter d.sense (value_at d p) (whole bound)
 
--- ---- the relaxation: the pairs are left out
+-- ---- the relaxation: the pairs and the groups are left out
 
 abbrev pub relaxed_deck : Deck → Deck
-relaxed_deck d = record d { pairs = [] }
+relaxed_deck d = record d { pairs = []; groups = [] }
 
 abbrev pub relaxed : Instance → Instance
 relaxed a = record a { pairs = [] }

@@ -1,9 +1,16 @@
 -- Words for what single steps of the code give.
-use Rattle.std.specs.Prelude.{◌≡◌, ◌≤◌, ◌<◌, ◌≤ℤ◌, ℕ, ℤ, ◌+ℤ◌, ◌-ℤ◌, ◌^◌, ◌++◌, pos, Bool, true, false, List, Option, None, Some, MatchOption, slice_get, unsigned_abs, if◌then◌else◌}
+use Rattle.std.specs.Prelude.{◌≡◌, ◌≤◌, ◌<◌, ◌≤ℤ◌, ℕ, ℤ, ◌+ℤ◌, ◌-ℤ◌, ◌^◌, ◌++◌, pos, Bool, true, false, List, Option, None, Some, MatchOption, length, map, slice_get, unsigned_abs, if◌then◌else◌}
 use Rattle.std.specs.Int.{◌∣◌}
+use Rattle.std.specs.List.{range_with_len}
 use Rattle.std.specs.Option.{option_map, option_to_list}
-use Rattle.lp_base.specs.declared.limits.TheConstants.{LARGEST_OF_CASE}
+use Rattle.lp_base.specs.declared.limits.TheConstants.{LARGEST_OF_CASE, MOST_CONSTRAINTS}
 use Rattle.lp_nums.specs.Fractions.{Fraction}
+use Rattle.decks.specs.Decks.{IsDeck}
+use Rattle.decks.specs.declared.deck.Deck.{Deck}
+use Rattle.decks.specs.declared.deck.PairLine.{PairLine}
+use Rattle.decks.specs.declared.deck.Quantity.{Quantity}
+use Rattle.deck_case.specs.CaseParts.{constraints_of}
+use Rattle.deck_case.specs.DeckCases.{before_column, before_row}
 use Rattle.deck_case.specs.declared.fault.CaseFault.{CaseFault}
 use Rattle.deck_case.specs.declared.fault.CaseFault.TheVariants.{RowWide, TooMany, NoMemory}
 use Rattle.deck_case.specs.declared.rows.Ends.{Ends}
@@ -51,6 +58,18 @@ ends_of lower upper = record { lower = lower; upper = upper }
 -- the end that a range of this size gives
 abbrev pub far_end : ℤ → Bool → ℤ → ℤ
 far_end near down span = if down then near -ℤ pos (unsigned_abs span) else near +ℤ pos (unsigned_abs span)
+
+-- ---- pairs
+
+-- the numbers of the first constraint of each row and of each column, where there are not too many constraints
+pub record AreFirsts (d : Deck) (rows columns : List ℕ) : Type 0 where
+  pub deck : IsDeck d
+  pub row_firsts : rows ≡ map (before_row d) (range_with_len 0 (length d.rows))
+  pub column_firsts : columns ≡ map (before_column d) (range_with_len 0 (length d.columns))
+  pub few : length (constraints_of d) ≤ MOST_CONSTRAINTS
+
+abbrev pub pair_with : Quantity → Quantity → PairLine
+pair_with a b = record { a = a; b = b }
 
 -- ---- faults
 

@@ -2,6 +2,7 @@
 ghost use Rattle.std.specs.Prelude.{◌≡◌, ◌≢◌, ◌+◌, ◌<◌, ◌++◌, ◌∷◌, [], All, IfErr, IfOk, IsTrue, OnOk, length, map, pos};
 ghost use Rattle.std.specs.List.{enumerate_from, range_with_len};
 ghost use Rattle.lp_base.specs.Ascending.{ascends_by};
+ghost use Rattle.sense.specs.Senses.{signed};
 ghost use Rattle.decks.specs.declared.deck.Letter.TheVariants.{N};
 ghost use Rattle.decks.specs.Decks.{IsDeck, IsDeckNumber, entries_of, entry_column};
 ghost use Rattle.deck_case.specs.CaseParts.{constraints_of_row, cost_of, numbers_of, offset_of, row_constraints, scale_of};
@@ -74,12 +75,8 @@ impl Body {
         Ok(())
     }
 
-    /// The rows of a deck, where `entries` has the entries of each row.
-    pub fn of_deck(
-        alloc: Global,
-        deck: &Deck,
-        entries: &[Sequence<Entry>],
-    ) -> Result<Body, CaseFault>
+    // The rows of a deck and its objective as it stands, where `entries` has the entries of each row.
+    fn of_rows(alloc: Global, deck: &Deck, entries: &[Sequence<Entry>]) -> Result<Body, CaseFault>
         requires deck { IsDeck deck.now }
         requires entries { entries.now
             ≡ map (entries_of deck.now.entries) (range_with_len 0 (length deck.now.rows)) }
@@ -103,6 +100,36 @@ impl Body {
         for (number, row) in deck.rows.as_slice().iter().enumerate() {
             made.add(alloc, columns, row, entries[number].as_slice())?;
         }
+        Ok(made)
+    }
+
+    /// The rows of a deck and its objective as it is to be least, where `entries` has the entries of
+    /// each row.
+    pub fn of_deck(
+        alloc: Global,
+        deck: &Deck,
+        entries: &[Sequence<Entry>],
+    ) -> Result<Body, CaseFault>
+        requires deck { IsDeck deck.now }
+        requires entries { entries.now
+            ≡ map (entries_of deck.now.entries) (range_with_len 0 (length deck.now.rows)) }
+        ensures constraints { IfOk result (λ made. made.constraints.items ≡ row_constraints deck.now) }
+        ensures firsts { IfOk result (λ made. made.firsts.items
+            ≡ map (before_row deck.now) (range_with_len 0 (length deck.now.rows))) }
+        ensures cost { IfOk result (λ made. made.objective.cost
+            ≡ map (signed deck.now.sense) (cost_of (length deck.now.columns)
+            (entries_of deck.now.entries deck.now.objective) (row_at deck.now deck.now.objective))) }
+        ensures scale { IfOk result (λ made. made.objective.scale
+            ≡ pos (scale_of (entries_of deck.now.entries deck.now.objective)
+            (row_at deck.now deck.now.objective))) }
+        ensures offset { IfOk result (λ made. made.objective.offset
+            ≡ signed deck.now.sense (offset_of (entries_of deck.now.entries deck.now.objective)
+            (row_at deck.now deck.now.objective))) }
+        ensures narrow { IfOk result (λ made. wide_rows deck.now.entries (enumerate_from 0 deck.now.rows) ≡ []) }
+        ensures err { IfErr result (IsFirstOf (wide_rows deck.now.entries (enumerate_from 0 deck.now.rows))) }
+    {
+        let mut made = Body::of_rows(alloc, deck, entries)?;
+        made.objective.turn(alloc, deck.sense)?;
         Ok(made)
     }
 }

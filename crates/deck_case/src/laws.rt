@@ -1,6 +1,7 @@
 //! Laws that say that the case means the deck, and that a deck has a case or one fault.
 ghost use Rattle.std.specs.Prelude.{◌≡◌, ◌↔◌, ◌⊎◌, ℕ, ℤ, List, Some, pos, ◌*ℤ◌, length, slice_get};
 ghost use Rattle.lp_nums.specs.Fractions.{Fraction, SameValue};
+ghost use Rattle.sense.specs.Senses.{signed};
 ghost use Rattle.lpcc_case.specs.Instance.{Instance};
 ghost use Rattle.lpcc_case.specs.Points.{Point, IsFeasible, cost_at};
 ghost use Rattle.lpcc_case.specs.Cases.{IsCase};
@@ -17,18 +18,19 @@ ghost use Rattle.deck_case.specs.Faults.{HasCaseFault};
 ghost use Rattle.deck_case.specs.Multipliers.{ArePositive, IsLeastMultiplier, multiplier};
 
 /// A point is feasible for the case exactly where each row but the objective is within its sides
-/// there, each column within its bounds, and in each pair a column is 0 or a row at its
-/// right-hand side.
+/// there, each column within its bounds, in each pair of PAIRS a column is 0 or at its upper bound or
+/// a row at its right-hand side, and of the items of each group, by place, at most one is not.
 pub fn feasible_exactly_where_the_deck_is_met()
     ensures { (d : Deck) (p : Point (length d.columns)) → IsDeck d →
         IsFeasible (case_of_deck d) p ↔ MeetsDeck d p }
 {}
 
-/// The cost of a point over the scale is the sum over the objective's entries.
+/// The cost of a point over the scale, with the other sign where the objective is to be greatest, is
+/// the sum over the objective's entries.
 pub fn cost_is_the_objective()
     ensures { (d : Deck) (p : Point (length d.columns)) → IsDeck d →
         SameValue (row_value d d.objective p)
-        (record { num = cost_at (case_of_deck d) p; den = (case_of_deck d).scale *ℤ pos p.d }) }
+        (record { num = signed d.sense (cost_at (case_of_deck d) p); den = (case_of_deck d).scale *ℤ pos p.d }) }
 {}
 
 /// The value of a point is the objective with its constant.
@@ -64,7 +66,7 @@ pub fn verdicts_are_those_of_the_deck()
     ensures { (d : Deck) (a : Instance) (v : Verdict) → IsDeck d → HasCase d a → IsTrueOf a v ↔ IsTrueOfDeck d v }
 {}
 
-/// So it is of the relaxations, in which the pairs are left out.
+/// So it is of the relaxations, in which the pairs and the groups are left out.
 pub fn relaxed_verdicts_are_those_of_the_relaxed_deck()
     ensures { (d : Deck) (a : Instance) (v : Verdict) → IsDeck d → HasCase d a →
         IsTrueOf (relaxed a) v ↔ IsTrueOfDeck (relaxed_deck d) v }

@@ -1,5 +1,5 @@
 //! The case of a deck: the rows and the bounds of columns as constraints over whole numbers, the
-//! objective and the pairs.
+//! objective as a cost that is to be least, and the pairs.
 #![tactic(auto)]
 
 ghost use Rattle.std.specs.Prelude.{◌≡◌, ◌⊎◌, IfOk, IfErr, IsErr};
@@ -19,6 +19,7 @@ mod objective;
 mod pairs;
 mod relations;
 mod rows;
+mod signs;
 
 use body::Body;
 use decks::Deck;
@@ -35,7 +36,8 @@ use std::alloc::Global;
 
 /// The case of a deck: each row times the least number that makes it whole, in file order, then
 /// the bounds of each column, and each pair as the pair of the constraints that are tight where
-/// its quantities are zero.
+/// its quantities are zero: the pairs of PAIRS, and then each two items of each group. The cost is
+/// the objective, with all signs changed where it is to be greatest.
 ///
 /// `RowWide` comes exactly where one of its whole numbers, or a multiplier, is past 2^52 in size,
 /// and names the first row or bound with such a number. `TooMany` comes exactly where, without
@@ -66,6 +68,7 @@ pub fn case_of(alloc: Global, deck: &Deck) -> Result<Case, CaseFault>
         body.objective.cost,
         body.objective.scale,
         body.objective.offset,
+        deck.sense,
         Sequence::of_vec(body.constraints),
         pairs,
     ))

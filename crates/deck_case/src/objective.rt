@@ -1,7 +1,9 @@
 //! The objective: the cost of each column, the constant and what both are multiplied by.
-ghost use Rattle.std.specs.Prelude.{◌≡◌, ◌<◌, [], All, IfErr, IfOk, IsTrue, None, map, pos};
+ghost use Rattle.std.specs.Prelude.{◌≡◌, ◌<◌, [], All, IfErr, IfOk, IsTrue, None, OnOk, map, pos};
 ghost use Rattle.std.specs.List.{range_with_len};
 ghost use Rattle.lp_base.specs.Ascending.{ascends_by, number_of};
+ghost use Rattle.sense.specs.Senses.{signed};
+ghost use Rattle.lpcc_case.specs.Cases.{FitsCase};
 ghost use Rattle.lpcc_case.specs.Points.{coefficient};
 ghost use Rattle.decks.specs.declared.deck.Letter.TheVariants.{N};
 ghost use Rattle.decks.specs.Decks.{IsDeckNumber, entry_column};
@@ -12,8 +14,10 @@ ghost use Rattle.deck_case.specs.Wide.{wide_row};
 use crate::CaseFault;
 use crate::entries::terms;
 use crate::numbers::{multiplier, whole};
+use crate::signs::{all_signed, signed};
 use decks::{Entry, Row};
 use lp_base::Sequence;
+use sense::Sense;
 use std::alloc::{AllocError, Global};
 
 /// The cost of each column and the constant, both times the scale.
@@ -36,6 +40,19 @@ impl Objective {
             scale: 1,
             offset: 0,
         }
+    }
+
+    /// Makes of an objective of this sense one that is to be least.
+    pub fn turn(&mut self, alloc: Global, sense: Sense) -> Result<(), AllocError>
+        requires costs { All FitsCase self.old.cost }
+        requires offset { FitsCase self.old.offset }
+        ensures cost { OnOk result (self.new.cost ≡ map (signed sense) self.old.cost) }
+        ensures scale { OnOk result (self.new.scale ≡ self.old.scale) }
+        ensures offset { OnOk result (self.new.offset ≡ signed sense self.old.offset) }
+    {
+        self.cost = all_signed(alloc, sense, self.cost.as_slice())?;
+        self.offset = signed(sense, self.offset);
+        Ok(())
     }
 }
 

@@ -1,21 +1,21 @@
 -- What a text spells keeps the facts of a deck.
 use Rattle.std.proofs.Common.{ℕ, ◌<◌, ◌≡◌, ◌≢◌, true, false, List, Result, Ok, Err, length, map, refl, sym, ap, subst, ◌∙◌, arith}
 use Rattle.std.proofs.lemmas.Bool.{true≢false}
-use Rattle.std.proofs.lemmas.List.{length-map}
+use Rattle.std.proofs.lemmas.List.{length-append, length-map}
 use Rattle.std.proofs.lemmas.List.Elements.{All-from_recursion}
 use Rattle.std.specs.Prelude.{IfOk}
 use Rattle.mps_lex.specs.Lines.{Line}
-use Rattle.mps_lex.specs.declared.line.Section.TheVariants.{Rows, Columns, Rhs, Ranges, Bounds, Pairs}
+use Rattle.mps_lex.specs.declared.line.Section.TheVariants.{Rows, Columns, Rhs, Ranges, Bounds, Pairs, Groups}
 use Rattle.decks.specs.declared.deck.Deck.{Deck}
 use Rattle.decks.specs.declared.deck.Entry.{Entry}
 use Rattle.decks.specs.declared.deck.Row as made
 use Rattle.decks.specs.declared.deck.Letter.{Letter}
 use Rattle.decks.specs.declared.deck.Letter.TheVariants.{N}
 use Rattle.decks.specs.declared.fault.DeckFault.{DeckFault}
-use Rattle.decks.specs.Decks.{IsDeck, IsDeckNumber, IsRow, IsColumn}
+use Rattle.decks.specs.Decks.{IsDeck, IsDeckNumber, IsRow, IsColumn, group_pairs}
 use Rattle.decks.specs.Bounds.{settings_in, column_bounds}
 use Rattle.decks.specs.Sections.{slice}
-use Rattle.decks.specs.Spelling.{is_n, has_objective, rows_of, kept, column_names, entries_in, row_values_in, deck_row, deck_entries, pair_of, deck_of}
+use Rattle.decks.specs.Spelling.{is_n, has_objective, rows_of, kept, column_names, entries_in, row_values_in, deck_row, deck_entries, field, pair_of, deck_pairs, deck_groups, deck_of}
 use Rattle.decks.specs.Texts.{Spells}
 use Rattle.decks.proofs.KeptParts.{all_weaker, every_map, get_map, get_mapped}
 use Rattle.decks.proofs.KeptNames.{get_first}
@@ -25,6 +25,7 @@ use Rattle.decks.proofs.KeptRowValues.{row_values_kept, row_is}
 use Rattle.decks.proofs.KeptBounds.{settings_kept, column_is}
 use Rattle.decks.proofs.KeptColumns.{columns_kept, IsEntry, entries_are, no_more_entries}
 use Rattle.decks.proofs.KeptPairs.{IsPair, few_pairs, pairs_are}
+use Rattle.decks.proofs.KeptGroups.{HasNamedItems, few_made, groups_are}
 
 not_n : (x r : Letter) → x ≡ r → is_n x ≡ false → r ≢ N
 not_n x r same other e = true≢false (ap is_n (sym e) ∙ ap is_n (sym same) ∙ other)
@@ -45,13 +46,16 @@ deck_is ls number right some =
     let ranged = row_values_kept (slice Rows ls) (slice Ranges ls) right.ranges in
     let objective = get_first names_objective ks (rows.numbered.objective some) in
     let entries = entries_are rs cs es rows columns.entries in
+    let names = length-map (slice Pairs ls) (λ (l : Line). field 0 l.fields) in
+    let few = few_pairs (slice Rows ls) (slice Columns ls) (slice Bounds ls) (slice Pairs ls) right.pairs in
+    let all = few_made (slice Rows ls) (slice Columns ls) (slice Bounds ls) (slice Pairs ls) (slice Groups ls) (omega (arith, names, few)) right.groups in
     let row_count = length-map ks (deck_row rights ranges) in
     let column_count = length-map cs (column_bounds ss) in
     record {
       few_rows = omega (arith, row_count, rows.numbered.few, rows.few);
       few_columns = omega (arith, column_count, columns.few_columns);
       few_entries = omega (arith, no_more_entries rs cs es, columns.few_entries);
-      few_pairs = omega (arith, length-map (slice Pairs ls) (λ (l : Line). pair_of rs cs l.fields), few_pairs (slice Rows ls) (slice Columns ls) (slice Bounds ls) (slice Pairs ls) right.pairs);
+      few_pairs = omega (arith, length-append (deck_pairs rs cs (slice Pairs ls)) (group_pairs (deck_groups rs cs (slice Groups ls))), length-map (slice Pairs ls) (λ (l : Line). pair_of rs cs l.fields), names, all);
       objective = (deck_row rights ranges objective.0, get_map (deck_row rights ranges) ks _ objective.0 objective.1, letter_n objective.0.letter objective.2);
       others = λ k r e n. let x = get_mapped (deck_row rights ranges) ks k r e in not_n x.0.letter r.letter (ap (λ (y : made.Row). y.letter) x.2) (other_row ks k x.0 rows.numbered.one x.1 n);
       rows = All-from_recursion IsRow (map (deck_row rights ranges) ks) (every_map IsRow (deck_row rights ranges) (row_is rights ranges valued ranged) ks);
@@ -61,6 +65,7 @@ deck_is ls number right some =
       entry_values = All-from_recursion (λ (e : Entry). IsDeckNumber e.value) (deck_entries rs cs es) (all_weaker (IsEntry (length ks) (length cs)) (λ (e : Entry). IsDeckNumber e.value) (λ e h. h.value) (deck_entries rs cs es) entries);
       ascending = λ row. columns.entries.ascending row;
       pairs_named = All-from_recursion (IsPair (deck_of ls number)) _ (pairs_are (deck_of ls number) (slice Rows ls) (slice Columns ls) (slice Bounds ls) (slice Pairs ls) rights ranges (record { rows_are = refl; columns_are = refl }) rows settings right.pairs);
+      groups_named = All-from_recursion (HasNamedItems (deck_of ls number)) _ (groups_are (deck_of ls number) (slice Rows ls) (slice Columns ls) (slice Bounds ls) (slice Pairs ls) (slice Groups ls) rights ranges (record { rows_are = refl; columns_are = refl }) rows settings right.groups);
     }
 
 pub spelled_keeps : (text : List ℕ) (d : Deck) (p : ℕ) → Spells text d p → IsDeck d

@@ -39,7 +39,7 @@ entry_right rows standing r v e =
       value = number_kept v (entry_text rows (has standing r) r v e);
     }
 
-not_split : (columns : List Name) (c : Name) → split_fault columns c ≡ None → length columns ≤ place columns c + 1
+pub not_split : (columns : List Name) (c : Name) → split_fault columns c ≡ None → length columns ≤ place columns c + 1
 not_split columns c e = ltb-false (place columns c + 1) (length columns) (if_none (ltb (place columns c + 1) (length columns)) ColumnSplit e)
 
 few_columns : (columns : List Name) (c : Name) (b : Bool) → length columns ≤ 1000 → (not b && leb 1000 (length columns)) ≡ false → length (cond b columns (columns ++ c ∷ [])) ≤ 1000

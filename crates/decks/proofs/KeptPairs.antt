@@ -6,7 +6,7 @@ use Rattle.std.proofs.lemmas.Bool.Decides.{Decides-int_eq}
 use Rattle.std.proofs.lemmas.Int.{ints}
 use Rattle.std.proofs.lemmas.List.{length-append, length-map}
 use Rattle.std.proofs.lemmas.Nat.Gcd.{dvd_refl, dvd-zero, le_of_dvd}
-use Rattle.std.specs.Prelude.{IfSome, slice_get, unsigned_abs, unwrap_or}
+use Rattle.std.specs.Prelude.{IfSome, is_some, slice_get, unsigned_abs, unwrap_or}
 use Rattle.std.specs.List.{AllByRecursion}
 use Rattle.lp_nums.specs.Fractions.{Fraction}
 use Rattle.mps_lex.specs.Kinds.{Name}
@@ -17,14 +17,14 @@ use Rattle.decks.specs.declared.deck.Row as made
 use Rattle.decks.specs.declared.deck.PairLine.{PairLine}
 use Rattle.decks.specs.declared.deck.Letter.{Letter}
 use Rattle.decks.specs.declared.deck.Letter.TheVariants.{N, E, L, G}
-use Rattle.decks.specs.declared.deck.Quantity.TheVariants.{Col, Row}
-use Rattle.decks.specs.declared.fault.DeckWhy.TheVariants.{UnknownName, PairKind, PairLower, TooMany}
+use Rattle.decks.specs.declared.deck.Quantity.TheVariants.{Col, Upc, Row}
+use Rattle.decks.specs.declared.fault.DeckWhy.TheVariants.{UnknownName, PairKind, PairLower, PairUpper, TooMany}
 use Rattle.decks.specs.Decks.{IsDeckNumber, NamesQuantity, is_inequality, zero}
 use Rattle.decks.specs.Names.{has, place}
 use Rattle.decks.specs.Numbers.{is_zero}
 use Rattle.decks.specs.Bounds.{Setting, settings_in, column_bounds}
-use Rattle.decks.specs.Spelling.{field, is_n, RowLine, kept, rows_of, row_named, number_of_row, column_names, RowValue, deck_row, pair_names, is_col, pair_of, deck_pairs}
-use Rattle.decks.specs.Faults.{◌or◌, fault_if, is_free_from_zero, column_quantity_fault, row_quantity_fault, quantity_fault, pair_front_fault, many_pairs_fault, pair_fault}
+use Rattle.decks.specs.Spelling.{field, is_n, RowLine, kept, rows_of, row_named, number_of_row, column_names, RowValue, deck_row, pair_names, is_col, is_upc, quantity_of, pair_of, deck_pairs}
+use Rattle.decks.specs.Faults.{◌or◌, fault_if, is_free_from_zero, column_quantity_fault, has_upper, upper_quantity_fault, row_quantity_fault, quantity_fault, pair_front_fault, many_pairs_fault, pair_fault}
 use Rattle.decks.proofs.KeptParts.{first_none, second_none, if_none, unless_none, get_map, all_map}
 use Rattle.decks.proofs.KeptNames.{get_place}
 use Rattle.decks.proofs.KeptRows.{RowsKept, PlacedAs, row_placed}
@@ -63,6 +63,19 @@ column_named d rows columns ss rights ranges n m h e =
     let here = ap (λ (x : List Column). slice_get x (place columns n)) m.columns_are ∙ get_map (column_bounds ss) columns (place columns n) n (get_place columns n stands) in
     (column_bounds ss n, here, not-true _ open_end.0, zero_end (column_bounds ss n).lower.value (column_is ss h n).lower open_end.1)
 
+some_end : (o : Option Fraction) → is_some o ≡ true → (v : Fraction) × (o ≡ Some v)
+some_end None e = absurd cc
+some_end (Some v) e = (v, refl)
+
+upper_named : (d : Deck) (rows : List RowLine) (columns : List Name) (ss : List Setting) (rights ranges : List RowValue) (n : Name) → IsMade d rows columns ss rights ranges → upper_quantity_fault columns (column_bounds ss) n ≡ None → NamesQuantity d (Upc (place columns n))
+upper_named d rows columns ss rights ranges n m e =
+    let unknown = fault_if (not (has columns n)) UnknownName in
+    let upper = fault_if (not (has_upper (column_bounds ss n))) PairUpper in
+    let stands : has columns n ≡ true = unless_none (has columns n) UnknownName (first_none unknown upper e) in
+    let open_end = and_parts (not (column_bounds ss n).fixed) (is_some (column_bounds ss n).upper.value) (unless_none (has_upper (column_bounds ss n)) PairUpper (second_none unknown upper e)) in
+    let here = ap (λ (x : List Column). slice_get x (place columns n)) m.columns_are ∙ get_map (column_bounds ss) columns (place columns n) n (get_place columns n stands) in
+    (column_bounds ss n, here, not-true _ open_end.0, some_end (column_bounds ss n).upper.value open_end.1)
+
 not_dropped : (l : Letter) → is_n l ≡ true → is_inequality l ≡ true → ⊥
 not_dropped N e f = absurd cc
 not_dropped E e f = absurd cc
@@ -79,10 +92,16 @@ named_row : (d : Deck) (rows : List RowLine) (columns : List Name) (ss : List Se
 named_row d rows columns ss rights ranges n None m h q e = absurd cc
 named_row d rows columns ss rights ranges n (Some r) m h q e = row_at d rows columns ss rights ranges r r.number m (unless_none (is_inequality r.letter) PairKind e) (row_placed rows n r h q).0
 
-quantity_named : (d : Deck) (rows : List RowLine) (columns : List Name) (ss : List Setting) (rights ranges : List RowValue) (b : Bool) (n : Name) → IsMade d rows columns ss rights ranges → RowsKept rows → SettingsKept ss
-    → cond b (column_quantity_fault columns (column_bounds ss) n) (row_quantity_fault (row_named rows n)) ≡ None → NamesQuantity d (cond b (Col (place columns n)) (Row (unwrap_or (number_of_row (row_named rows n)) 0)))
-quantity_named d rows columns ss rights ranges true n m h k e = column_named d rows columns ss rights ranges n m k e
-quantity_named d rows columns ss rights ranges false n m h k e = named_row d rows columns ss rights ranges n (row_named rows n) m h refl e
+quantity_by : (d : Deck) (rows : List RowLine) (columns : List Name) (ss : List Setting) (rights ranges : List RowValue) (b u : Bool) (n : Name) → IsMade d rows columns ss rights ranges → RowsKept rows → SettingsKept ss
+    → cond b (column_quantity_fault columns (column_bounds ss) n) (cond u (upper_quantity_fault columns (column_bounds ss) n) (row_quantity_fault (row_named rows n))) ≡ None
+    → NamesQuantity d (cond b (Col (place columns n)) (cond u (Upc (place columns n)) (Row (unwrap_or (number_of_row (row_named rows n)) 0))))
+quantity_by d rows columns ss rights ranges true u n m h k e = column_named d rows columns ss rights ranges n m k e
+quantity_by d rows columns ss rights ranges false true n m h k e = upper_named d rows columns ss rights ranges n m e
+quantity_by d rows columns ss rights ranges false false n m h k e = named_row d rows columns ss rights ranges n (row_named rows n) m h refl e
+
+pub quantity_named : (d : Deck) (rows : List RowLine) (columns : List Name) (ss : List Setting) (rights ranges : List RowValue) (kind n : Name) → IsMade d rows columns ss rights ranges → RowsKept rows → SettingsKept ss
+    → quantity_fault rows columns (column_bounds ss) kind n ≡ None → NamesQuantity d (quantity_of rows columns kind n)
+quantity_named d rows columns ss rights ranges kind n m h k e = quantity_by d rows columns ss rights ranges (is_col kind) (is_upc kind) n m h k e
 
 -- ---- a line
 
@@ -134,7 +153,7 @@ pairs_are d rows columns bounds ls rights ranges m h k right =
     let ss = settings_in bounds in
     all_map (λ (l : Line). IsPairRight rs cs ss l.fields) (IsPair d) (λ (l : Line). pair_of rs cs l.fields)
     (λ l q. (
-      quantity_named d rs cs ss rights ranges (is_col (field 1 l.fields)) (field 2 l.fields) m h k q.first,
-      quantity_named d rs cs ss rights ranges (is_col (field 3 l.fields)) (field 4 l.fields) m h k q.second,
+      quantity_named d rs cs ss rights ranges (field 1 l.fields) (field 2 l.fields) m h k q.first,
+      quantity_named d rs cs ss rights ranges (field 3 l.fields) (field 4 l.fields) m h k q.second,
     ))
     ls (each_line (pairs_fault rows columns bounds) (IsPairRight rs cs ss) (λ before fs e. (pair_line rs cs ss (pair_names before) fs e).right) [] ls right)

@@ -4,11 +4,13 @@ pub mod KeptNumbers
 pub mod KeptParts
 pub mod KeptSlices
 pub mod KeptNames
+pub mod OnceNames
 pub mod KeptRows
 pub mod KeptRowValues
 pub mod KeptBounds
 pub mod KeptEntries
 pub mod KeptColumns
 pub mod KeptPairs
+pub mod KeptGroups
 pub mod Kept
 pub mod Values

@@ -1,6 +1,8 @@
 -- Under `yes`: the fault of a line: that line and the lines before it decide.
-use Rattle.std.specs.Prelude.{ℕ, ◌+◌, Bool, not, ◌&&◌, ◌||◌, nat_le, nat_lt, is_some, is_none, codes, if◌then◌else◌, List, [], ◌∷◌, ◌++◌, length, Option, Some, None, option_map}
+use Rattle.std.specs.Prelude.{ℕ, ◌+◌, ◌%◌, ◌==◌, Bool, not, ◌&&◌, ◌||◌, nat_le, nat_lt, is_some, is_none, codes, if◌then◌else◌, List, [], ◌∷◌, ◌++◌, length, Option, Some, None, option_map}
+use Rattle.std.specs.List.{list_any}
 use Rattle.std.specs.Str.{bytes_eq}
+use Rattle.sense.specs.declared.objective.Sense.{Sense}
 use Rattle.lp_base.specs.declared.limits.TheConstants.{MOST_COLUMNS, MOST_ENTRIES, MOST_PAIRS, MOST_ROWS}
 use Rattle.mps_lex.specs.Kinds.{Name}
 use Rattle.mps_lex.specs.Lines.{Line}
@@ -10,13 +12,14 @@ use Rattle.mps_lex.specs.declared.line.LineKind.{LineKind}
 use Rattle.mps_lex.specs.declared.line.LineKind.TheVariants.{Blank, Comment, Head, LeftOut, Unknown, Entry}
 use Rattle.decks.specs.declared.bounds.BoundKind.{BoundKind}
 use Rattle.decks.specs.declared.fault.DeckWhy.{DeckWhy}
-use Rattle.decks.specs.declared.fault.DeckWhy.TheVariants.{UnknownSection, LeftOutSection, SectionOrder, FieldCount, RowLetter, BoundKind as BoundKindWhy, NameTwice, UnknownName, EntryTwice, ColumnSplit, SecondSet, NoObjective, IntegerMarker, UpperBelowZero, PairKind, PairLower, TooMany}
+use Rattle.decks.specs.declared.fault.DeckWhy.TheVariants.{UnknownSection, LeftOutSection, SectionOrder, FieldCount, RowLetter, SenseWord, BoundKind as BoundKindWhy, NameTwice, UnknownName, EntryTwice, ColumnSplit, GroupSplit, SecondSet, SecondSense, NoObjective, IntegerMarker, UpperBelowZero, PairKind, PairLower, PairUpper, TooMany}
 use Rattle.decks.specs.declared.deck.Column.{Column}
-use Rattle.decks.specs.Decks.{is_inequality}
+use Rattle.decks.specs.Decks.{is_inequality, new_pairs, group_pairs}
 use Rattle.decks.specs.Names.{has, place, named}
 use Rattle.decks.specs.Numbers.{text_fault, is_zero}
 use Rattle.decks.specs.Sections.{Open, is_open, open_behind, open_rank, is_begun, slice, may_follow}
-use Rattle.decks.specs.Spelling.{RowLine, rows_of, field, row_named, has_objective, other_rows, is_n, letter_of, entries_in, rows_in, column_names, RowValue, row_value, row_values_set, row_values_in, first_set, pair_names, is_col}
+use Rattle.decks.specs.Spelling.{RowLine, rows_of, field, row_named, has_objective, other_rows, is_n, letter_of, entries_in, rows_in, column_names, RowValue, row_value, row_values_set, row_values_in, first_set, pair_names, is_col, is_upc, ItemWords, items_in, items_of, group_names, deck_groups}
+use Rattle.decks.specs.Senses.{sense_word, sense_named}
 use Rattle.decks.specs.Bounds.{bound_kind, takes_value, BoundWords, bound_words, bound_set, settings_in, column_bounds, upper_below_zero}
 
 -- the first of two faults
@@ -27,6 +30,22 @@ None or other = other
 
 abbrev pub fault_if : Bool → DeckWhy → Option DeckWhy
 fault_if b w = if b then Some w else None
+
+-- ---- OBJSENSE
+
+abbrev pub sense_word_fault : Name → Option DeckWhy
+sense_word_fault w = fault_if (is_none (sense_word w)) SenseWord
+
+-- the words of a head: of OBJSENSE at most one word stands behind it, and it is one of a sense
+abbrev pub head_words_fault : Section → List Name → Option DeckWhy
+head_words_fault section.ObjSense (h ∷ w ∷ []) = sense_word_fault w
+head_words_fault section.ObjSense (h ∷ w ∷ v ∷ ws) = Some FieldCount
+head_words_fault t fs = None
+
+-- a line of OBJSENSE, below the sense that is named before it
+abbrev pub sense_fault : Option Sense → List Name → Option DeckWhy
+sense_fault before (w ∷ []) = sense_word_fault w or fault_if (is_some before) SecondSense
+sense_fault before fs = Some FieldCount
 
 -- ---- ROWS
 
@@ -49,9 +68,12 @@ abbrev pub marker_fault : List Name → Option DeckWhy
 marker_fault (c ∷ r ∷ fs) = fault_if (bytes_eq r (codes "'MARKER'")) IntegerMarker
 marker_fault fs = None
 
--- a column's name stands already, but not as the last one
+-- a name stands already, but not as the last one
+abbrev pub is_split : List Name → Name → Bool
+is_split names n = nat_lt (place names n + 1) (length names)
+
 abbrev pub split_fault : List Name → Name → Option DeckWhy
-split_fault columns c = fault_if (nat_lt (place columns c + 1) (length columns)) ColumnSplit
+split_fault columns c = fault_if (is_split columns c) ColumnSplit
 
 -- a row with its value, where one is given for the row already, or not
 abbrev pub entry_fault : List RowLine → Bool → Name → Name → Option DeckWhy
@@ -127,7 +149,7 @@ bound_fault columns set (k ∷ fs) = bound_kind_fault columns set k (bound_kind 
 -- ---- PAIRS
 
 abbrev pub is_kind : Name → Bool
-is_kind w = bytes_eq w (codes "COL") || bytes_eq w (codes "ROW")
+is_kind w = bytes_eq w (codes "COL") || bytes_eq w (codes "ROW") || bytes_eq w (codes "UPC")
 
 -- COL speaks of a column that is not fixed and has the lower bound 0
 abbrev pub is_free_from_zero : Column → Bool
@@ -136,13 +158,22 @@ is_free_from_zero c = not c.fixed && is_zero c.lower.value
 abbrev pub column_quantity_fault : List Name → (Name → Column) → Name → Option DeckWhy
 column_quantity_fault columns bounds n = fault_if (not (has columns n)) UnknownName or fault_if (not (is_free_from_zero (bounds n))) PairLower
 
+-- UPC speaks of a column that is not fixed and has an upper bound
+abbrev pub has_upper : Column → Bool
+has_upper c = not c.fixed && is_some c.upper.value
+
+abbrev pub upper_quantity_fault : List Name → (Name → Column) → Name → Option DeckWhy
+upper_quantity_fault columns bounds n = fault_if (not (has columns n)) UnknownName or fault_if (not (has_upper (bounds n))) PairUpper
+
 -- ROW speaks of an L or G row
 abbrev pub row_quantity_fault : Option RowLine → Option DeckWhy
 row_quantity_fault None = Some UnknownName
 row_quantity_fault (Some r) = fault_if (not (is_inequality r.letter)) PairKind
 
 abbrev pub quantity_fault : List RowLine → List Name → (Name → Column) → Name → Name → Option DeckWhy
-quantity_fault rows columns bounds kind n = if is_col kind then column_quantity_fault columns bounds n else row_quantity_fault (row_named rows n)
+quantity_fault rows columns bounds kind n =
+    if is_col kind then column_quantity_fault columns bounds n else
+    if is_upc kind then upper_quantity_fault columns bounds n else row_quantity_fault (row_named rows n)
 
 -- the kinds of a pair, and its name below these
 abbrev pub pair_front_fault : List Name → Name → Name → Name → Option DeckWhy
@@ -160,10 +191,37 @@ pair_fault rows columns bounds pairs (p ∷ k ∷ a ∷ l ∷ b ∷ []) =
     pair_front_fault pairs p k l or quantities_fault rows columns bounds k a l b or many_pairs_fault pairs
 pair_fault rows columns bounds pairs fs = Some FieldCount
 
+-- ---- GROUPS
+
+-- one or more times a kind and a name
+abbrev pub are_items : List Name → Bool
+are_items ws = nat_lt 0 (length ws) && (length ws % 2) == 0
+
+-- the words behind the name of a group, and the name below these
+abbrev pub group_front_fault : List Name → Name → List Name → Option DeckWhy
+group_front_fault groups g ws =
+    fault_if (not (are_items ws)) FieldCount or fault_if (list_any (λ w. not (is_kind w.0)) (items_in ws)) PairKind
+    or fault_if (is_split groups g) GroupSplit
+
+abbrev pub items_fault : List RowLine → List Name → (Name → Column) → List ItemWords → Option DeckWhy
+items_fault rows columns bounds [] = None
+items_fault rows columns bounds (w ∷ ws) = quantity_fault rows columns bounds w.0 w.1 or items_fault rows columns bounds ws
+
+-- so many further items, where so many pairs are made and the group has n items
+abbrev pub full_group_fault : ℕ → ℕ → ℕ → Option DeckWhy
+full_group_fault made n more = fault_if (nat_lt MOST_PAIRS (made + new_pairs n more)) TooMany
+
+-- a line of GROUPS, below these rows, columns with their bounds, groups, n items of its group, and so many pairs
+abbrev pub group_fault : List RowLine → List Name → (Name → Column) → List Name → ℕ → ℕ → List Name → Option DeckWhy
+group_fault rows columns bounds groups n made (g ∷ ws) =
+    group_front_fault groups g ws or items_fault rows columns bounds (items_in ws) or full_group_fault made n (length (items_in ws))
+group_fault rows columns bounds groups n made fs = Some FieldCount
+
 -- ---- lines
 
 -- a data line in a section, below the lines before it
 abbrev pub data_fault : Open → List Line → List Name → Option DeckWhy
+data_fault (Some section.ObjSense) before fs = sense_fault (sense_named before) fs
 data_fault (Some section.Rows) before fs = row_fault (rows_of (slice section.Rows before)) fs
 data_fault (Some section.Columns) before fs =
     let entries = entries_in (slice section.Columns before) in
@@ -178,6 +236,12 @@ data_fault (Some section.Bounds) before fs =
     bound_fault (column_names (slice section.Columns before)) (first_set bound_set (slice section.Bounds before)) fs
 data_fault (Some section.Pairs) before fs =
     pair_fault (rows_of (slice section.Rows before)) (column_names (slice section.Columns before)) (column_bounds (settings_in (slice section.Bounds before))) (pair_names (slice section.Pairs before)) fs
+data_fault (Some section.Groups) before fs =
+    let rows = rows_of (slice section.Rows before) in
+    let columns = column_names (slice section.Columns before) in
+    let groups = slice section.Groups before in
+    group_fault rows columns (column_bounds (settings_in (slice section.Bounds before))) (group_names groups) (length (items_of (field 0 fs) groups))
+    (length (pair_names (slice section.Pairs before)) + length (group_pairs (deck_groups rows columns groups))) fs
 data_fault s before fs = Some SectionOrder
 
 -- a fault with the line at which it is named
@@ -211,7 +275,7 @@ order_fault before t = fault_if (not (may_follow (open_rank (open_behind before)
 abbrev pub kind_fault : List Line → ℕ → LineKind → List Name → Option Found
 kind_fault before number Blank fs = None
 kind_fault before number Comment fs = None
-kind_fault before number (Head t) fs = ended_fault before number or named_at number (order_fault before t)
+kind_fault before number (Head t) fs = ended_fault before number or named_at number (order_fault before t or head_words_fault t fs)
 kind_fault before number LeftOut fs = ended_fault before number or Some (number, LeftOutSection)
 kind_fault before number Unknown fs = Some (number, UnknownSection)
 kind_fault before number Entry fs = named_at number (data_fault (open_behind before) before fs)

@@ -3,6 +3,7 @@ pub mod Names
 pub mod Numbers
 pub mod Sections
 pub mod Bounds
+pub mod Senses
 pub mod Spelling
 pub mod Faults
 pub mod Texts

@@ -2,20 +2,22 @@
 use Rattle.std.specs.Prelude.{ℕ, Bool, true, false, not, ◌&&◌, ◌==◌, nat_le, if◌then◌else◌, List, [], ◌∷◌, ◌++◌, Option, Some, None}
 use Rattle.std.specs.List.{list_any}
 use Rattle.mps_lex.specs.declared.line.Section.{Section}
-use Rattle.mps_lex.specs.declared.line.Section.TheVariants.{Name, Rows, Columns, Rhs, Ranges, Bounds, Pairs, Endata}
+use Rattle.mps_lex.specs.declared.line.Section.TheVariants.{Name, ObjSense, Rows, Columns, Rhs, Ranges, Bounds, Pairs, Groups, Endata}
 use Rattle.mps_lex.specs.declared.line.LineKind.{LineKind}
 use Rattle.mps_lex.specs.declared.line.LineKind.TheVariants.{Head, Entry}
 use Rattle.mps_lex.specs.Lines.{Line}
 
 abbrev pub section_number : Section → ℕ
 section_number Name = 1
-section_number Rows = 2
-section_number Columns = 3
-section_number Rhs = 4
-section_number Ranges = 5
-section_number Bounds = 6
-section_number Pairs = 7
-section_number Endata = 8
+section_number ObjSense = 2
+section_number Rows = 3
+section_number Columns = 4
+section_number Rhs = 5
+section_number Ranges = 6
+section_number Bounds = 7
+section_number Pairs = 8
+section_number Groups = 9
+section_number Endata = 10
 
 abbrev pub same_section : Section → Section → Bool
 same_section s t = section_number s == section_number t
@@ -72,26 +74,30 @@ is_begun t ls = list_any (λ l. is_head t l.kind) ls
 -- RHS, RANGES and BOUNDS have one rank, since they come in any order
 abbrev pub rank : Section → ℕ
 rank Name = 1
-rank Rows = 2
-rank Columns = 3
-rank Rhs = 4
-rank Ranges = 4
-rank Bounds = 4
-rank Pairs = 5
-rank Endata = 6
+rank ObjSense = 2
+rank Rows = 3
+rank Columns = 4
+rank Rhs = 5
+rank Ranges = 5
+rank Bounds = 5
+rank Pairs = 6
+rank Groups = 7
+rank Endata = 8
 
 abbrev pub open_rank : Open → ℕ
 open_rank None = 0
 open_rank (Some s) = rank s
 
 -- whether a section may begin behind one of this rank, where it is begun already or not. NAME comes first if it comes,
--- then ROWS and COLUMNS; of the later ones each may be missing, and ENDATA ends the deck
+-- then OBJSENSE if it comes, then ROWS and COLUMNS; of the later ones each may be missing, and ENDATA ends the deck
 abbrev pub may_follow : ℕ → Bool → Section → Bool
 may_follow from begun Name = nat_le from 0
-may_follow from begun Rows = nat_le from 1
-may_follow from begun Columns = from == 2
-may_follow from begun Rhs = nat_le 3 from && nat_le from 4 && not begun
-may_follow from begun Ranges = nat_le 3 from && nat_le from 4 && not begun
-may_follow from begun Bounds = nat_le 3 from && nat_le from 4 && not begun
-may_follow from begun Pairs = nat_le 3 from && nat_le from 4
-may_follow from begun Endata = nat_le 3 from && nat_le from 5
+may_follow from begun ObjSense = nat_le from 1
+may_follow from begun Rows = nat_le from 2
+may_follow from begun Columns = from == 3
+may_follow from begun Rhs = nat_le 4 from && nat_le from 5 && not begun
+may_follow from begun Ranges = nat_le 4 from && nat_le from 5 && not begun
+may_follow from begun Bounds = nat_le 4 from && nat_le from 5 && not begun
+may_follow from begun Pairs = nat_le 4 from && nat_le from 5
+may_follow from begun Groups = nat_le 4 from && nat_le from 6
+may_follow from begun Endata = nat_le 4 from && nat_le from 7

@@ -1,23 +1,26 @@
 -- Under `yes`: the deck that lines spell: each part of it is made from the lines of its slice, in their order.
-use Rattle.std.specs.Prelude.{ℕ, ◌+◌, Bool, true, false, not, ◌&&◌, if◌then◌else◌, List, [], ◌∷◌, ◌++◌, length, map, filter, fold, slice_index_or, Option, Some, None, is_some, unwrap_or, count_by, codes}
+use Rattle.std.specs.Prelude.{ℕ, ◌+◌, Bool, true, false, not, ◌&&◌, if◌then◌else◌, List, [], ◌∷◌, ◌++◌, length, map, filter, fold, drop, slice_index_or, Option, Some, None, is_some, unwrap_or, count_by, codes}
 use Rattle.std.specs.List.{flat_map, list_any, find, position_or_len}
 use Rattle.std.specs.Str.{bytes_eq}
 use Rattle.lp_nums.specs.Fractions.{Fraction}
+use Rattle.sense.specs.declared.objective.Sense.TheVariants.{Min}
 use Rattle.mps_lex.specs.Kinds.{Name}
 use Rattle.mps_lex.specs.Lines.{Line}
-use Rattle.mps_lex.specs.declared.line.Section.TheVariants.{Rows, Columns, Rhs, Ranges, Bounds, Pairs}
+use Rattle.mps_lex.specs.declared.line.Section.TheVariants.{Rows, Columns, Rhs, Ranges, Bounds, Pairs, Groups}
 use Rattle.decks.specs.declared.deck.Deck.{Deck}
 use Rattle.decks.specs.declared.deck.Row as rows
 use Rattle.decks.specs.declared.deck.Entry.{Entry}
+use Rattle.decks.specs.declared.deck.GroupLine.{GroupLine}
 use Rattle.decks.specs.declared.deck.PairLine.{PairLine}
 use Rattle.decks.specs.declared.deck.Letter.{Letter}
 use Rattle.decks.specs.declared.deck.Letter.TheVariants.{N, E, L, G}
 use Rattle.decks.specs.declared.deck.Quantity.{Quantity}
-use Rattle.decks.specs.declared.deck.Quantity.TheVariants.{Col, Row}
+use Rattle.decks.specs.declared.deck.Quantity.TheVariants.{Col, Upc, Row}
 use Rattle.decks.specs.Decks.{zero}
 use Rattle.decks.specs.Names.{place, each_once, named}
 use Rattle.decks.specs.Numbers.{value_of}
 use Rattle.decks.specs.Sections.{slice}
+use Rattle.decks.specs.Senses.{sense_named}
 use Rattle.decks.specs.Bounds.{settings_in, column_bounds}
 
 abbrev pub field : ℕ → List Name → Name
@@ -164,8 +167,13 @@ pair_names ls = map (λ l. field 0 l.fields) ls
 abbrev pub is_col : Name → Bool
 is_col w = bytes_eq w (codes "COL")
 
+abbrev pub is_upc : Name → Bool
+is_upc w = bytes_eq w (codes "UPC")
+
 abbrev pub quantity_of : List RowLine → List Name → Name → Name → Quantity
-quantity_of rows columns kind n = if is_col kind then Col (place columns n) else Row (unwrap_or (number_of_row (row_named rows n)) 0)
+quantity_of rows columns kind n =
+    if is_col kind then Col (place columns n) else
+    if is_upc kind then Upc (place columns n) else Row (unwrap_or (number_of_row (row_named rows n)) 0)
 
 abbrev pub pair_of : List RowLine → List Name → List Name → PairLine
 pair_of rows columns fs = record {
@@ -176,19 +184,53 @@ pair_of rows columns fs = record {
 abbrev pub deck_pairs : List RowLine → List Name → List Line → List PairLine
 deck_pairs rows columns ls = map (λ l. pair_of rows columns l.fields) ls
 
+-- ---- GROUPS: a name, and one or more times a kind with a column or a row
+
+-- a kind with the name of a column or a row
+abbrev pub ItemWords : Type 0
+ItemWords = Name × Name
+
+-- words two by two
+abbrev pub items_in : List Name → List ItemWords
+items_in (k ∷ n ∷ ws) = (k, n) ∷ items_in ws
+items_in ws = []
+
+-- behind the name of the group
+abbrev pub items_on : List Name → List ItemWords
+items_on fs = items_in (drop 1 fs)
+
+abbrev pub group_names : List Line → List Name
+group_names ls = each_once (map (λ l. field 0 l.fields) ls)
+
+-- the items of the group of this name, on all its lines
+abbrev pub items_of : Name → List Line → List ItemWords
+items_of g ls = flat_map (λ l. items_on l.fields) (filter (λ l. bytes_eq g (field 0 l.fields)) ls)
+
+abbrev pub item_of : List RowLine → List Name → ItemWords → Quantity
+item_of rows columns w = quantity_of rows columns w.0 w.1
+
+abbrev pub group_of : List RowLine → List Name → List Line → Name → GroupLine
+group_of rows columns ls g = record { items = map (item_of rows columns) (items_of g ls) }
+
+abbrev pub deck_groups : List RowLine → List Name → List Line → List GroupLine
+deck_groups rows columns ls = map (group_of rows columns ls) (group_names ls)
+
 -- ---- the deck
 
--- the deck of lines, with the number of the line behind them, which is ENDATA
+-- the deck of lines, with the number of the line behind them, which is ENDATA. Where no line names a sense, the objective is to
+-- be least
 abbrev pub deck_of : List Line → ℕ → Deck
 deck_of ls end_line =
     let rows = rows_of (slice Rows ls) in
     let columns = column_names (slice Columns ls) in
     record {
+      sense = unwrap_or (sense_named ls) Min;
       rows = map (deck_row (row_values_in (slice Rhs ls)) (row_values_in (slice Ranges ls))) (kept rows);
       objective = position_or_len (λ r. is_n r.letter) (kept rows);
       columns = map (column_bounds (settings_in (slice Bounds ls))) columns;
       entries = deck_entries rows columns (entries_in (slice Columns ls));
       pairs = deck_pairs rows columns (slice Pairs ls);
+      groups = deck_groups rows columns (slice Groups ls);
       end_line = end_line;
     }
 

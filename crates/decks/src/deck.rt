@@ -1,6 +1,7 @@
 //! What a deck says, with names replaced by numbers from 0 in the order of their first standing.
 use lp_base::Sequence;
 use lp_nums::Frac;
+use sense::Sense;
 
 /// The letter of a row: the objective, or a row that is equal to, at most or at least its
 /// right-hand side.
@@ -47,11 +48,12 @@ pub struct Entry {
     pub value: Frac,
 }
 
-/// A nonnegative quantity that a pair speaks of: a column, or how far a row is from its right-hand
-/// side.
+/// A nonnegative quantity that a pair or a group speaks of: a column, how far a column is from its
+/// upper bound, or how far a row is from its right-hand side.
 #[derive(Clone, Copy, Debug, PartialEq, Eq)]
 pub enum Quantity {
     Col(u32),
+    Upc(u32),
     Row(u32),
 }
 
@@ -62,14 +64,23 @@ pub struct PairLine {
     pub b: Quantity,
 }
 
-/// The objective and the rows other than N rows in file order, the place of the objective among
-/// them, the columns, entries and pairs in file order, and the line of ENDATA.
+/// Quantities of which at most one may be other than zero, by place: one that stands twice is two.
+#[derive(Drop)]
+pub struct GroupLine {
+    pub items: Sequence<Quantity>,
+}
+
+/// Whether the objective is to be least or greatest; the objective and the rows other than N rows in
+/// file order, the place of the objective among them, the columns, entries, pairs and groups in file
+/// order, and the line of ENDATA.
 #[derive(Drop)]
 pub struct Deck {
+    pub sense: Sense,
     pub rows: Sequence<Row>,
     pub objective: u32,
     pub columns: Sequence<Column>,
     pub entries: Sequence<Entry>,
     pub pairs: Sequence<PairLine>,
+    pub groups: Sequence<GroupLine>,
     pub end_line: u32,
 }

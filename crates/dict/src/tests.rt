@@ -4,6 +4,7 @@ ghost use Rattle.lpcc_case.specs.Cases.{FitsCase, IsConstraint};
 use super::*;
 use lp_base::Sequence;
 use lpcc_case::{Case, Constraint, Form, Kind};
+use sense::Sense;
 use std::alloc::{AllocError, Global};
 use std::test::Fail;
 
@@ -62,7 +63,15 @@ fn case_of(
     let mut constraints: Sequence<Constraint> = Sequence::new(alloc);
     constraints.push(first)?;
     constraints.push(second)?;
-    Ok(Case::of_parts(columns, cost, 1, 0, constraints, Sequence::new(alloc)))
+    Ok(Case::of_parts(
+        columns,
+        cost,
+        1,
+        0,
+        Sense::Min,
+        constraints,
+        Sequence::new(alloc),
+    ))
 }
 
 /// The numbers of all rows: the denominator, the constant, then each entry.

@@ -5,6 +5,7 @@ use Rattle.std.proofs.lemmas.Int.{ints, by_lt_z}
 use Rattle.std.proofs.Math.Nat.{mul-le-mul}
 use Rattle.std.proofs.Math.IntN.{*ℤ-one, zero-*ℤ}
 use Rattle.lp_base.proofs.Ring.{mul_comm, mul_add_left, mul_add_right, mul_swap, mul_shuffle, mul_lt_right, mul_le_right, mul_cancel_right}
+use Rattle.sense.proofs.SenseLaws.{equal_signed}
 use Rattle.lpcc_case.specs.Instance.{Instance}
 use Rattle.lpcc_case.specs.Points.{cost_at}
 use Rattle.lp_nums.specs.Fractions.{Fraction, SameValue}
@@ -50,7 +51,7 @@ optimal-unique a n m d e scale one two =
     let q = two.0 in
     let same = equal_costs (cost_at a p) (cost_at a q) p.d q.d (λ lt. two.4 p one.2 lt) (λ lt. one.4 q two.2 lt) in
     cancel_scale (n *ℤ pos e) (m *ℤ pos d) a.scale p.d q.d scale p.positive q.positive
-    (same_fraction n m _ _ a.scale d e p.d q.d one.3 two.3 (equal_with_offset (cost_at a p) (cost_at a q) a.offset p.d q.d same))
+    (same_fraction n m _ _ a.scale d e p.d q.d one.3 two.3 (equal_signed a.sense _ _ (pos p.d) (pos q.d) (equal_with_offset (cost_at a p) (cost_at a q) a.offset p.d q.d same)))
 
 -- a number that is not above 0 times a factor of at least 1
 times_below : (b u : ℤ) (k : ℕ) → 0 < k → b ≤ℤ pos 0 → b ≤ℤ u → (b *ℤ pos k) ≤ℤ u

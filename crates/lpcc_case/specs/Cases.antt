@@ -4,10 +4,11 @@ use Rattle.lp_base.specs.Ascending.{ascends_by, number_of}
 use Rattle.lp_base.specs.declared.limits.TheConstants.{LARGEST_OF_CASE, MOST_COLUMNS, MOST_CONSTRAINTS, MOST_PAIRS}
 use Rattle.lpcc_case.specs.declared.constraint.Constraint.{Constraint}
 use Rattle.lpcc_case.specs.declared.constraint.Kind.TheVariants.{Ge}
+use Rattle.sense.specs.declared.objective.Sense.{Sense}
 use Rattle.lpcc_case.specs.Instance.{Instance}
 
-abbrev pub instance_of : ℕ → List ℤ → ℤ → ℤ → List Constraint → List (ℕ × ℕ) → Instance
-instance_of columns cost scale offset constraints pairs = record { columns = columns; cost = cost; scale = scale; offset = offset; constraints = constraints; pairs = pairs }
+abbrev pub instance_of : ℕ → List ℤ → ℤ → ℤ → Sense → List Constraint → List (ℕ × ℕ) → Instance
+instance_of columns cost scale offset sense constraints pairs = record { columns = columns; cost = cost; scale = scale; offset = offset; sense = sense; constraints = constraints; pairs = pairs }
 
 -- at most 2^52 in size
 abbrev pub FitsCase : ℤ → Type 0

@@ -1,17 +1,20 @@
 -- An instance of a linear program with complementarity constraints, over whole numbers of any size.
 use Rattle.std.specs.Prelude.{ℕ, ℤ, pos, List, [], length, slice_index_or}
+use Rattle.sense.specs.declared.objective.Sense.{Sense}
 use Rattle.nogoods.specs.declared.choice.Choice.{Choice}
 use Rattle.nogoods.specs.declared.choice.Side.{Side}
 use Rattle.nogoods.specs.declared.choice.Side.TheVariants.{A, B}
 use Rattle.lpcc_case.specs.declared.constraint.Constraint.{Constraint}
 use Rattle.lpcc_case.specs.declared.constraint.Kind.TheVariants.{Eq}
 
--- minimise (cost x + offset) / scale over the x that meet the constraints, and in each pair with equality in one
+-- find the least cost over the x that meet the constraints, and in each pair with equality in one; the objective of the
+-- model is (cost x + offset) / scale, with the other sign where it is to be greatest
 pub record Instance : Type 0 where
   pub columns : ℕ
   pub cost : List ℤ
   pub scale : ℤ
   pub offset : ℤ
+  pub sense : Sense
   pub constraints : List Constraint
   pub pairs : List (ℕ × ℕ)
 

@@ -1,12 +1,13 @@
--- The value of a point, with scale and offset.
+-- The value of a point, with scale, offset and sense.
 use Rattle.std.specs.Prelude.{◌≡◌, ℕ, ℤ, ◌+ℤ◌, ◌*ℤ◌, List}
 use Rattle.lp_nums.specs.Fractions.{Fraction, IsReduced, SameValue}
 use Rattle.lp_nums.specs.Texts.{fraction_text}
+use Rattle.sense.specs.Senses.{signed}
 use Rattle.lpcc_case.specs.Instance.{Instance}
 
--- (z + offset d) / (scale d), where z / d is the cost of a point
+-- (z + offset d) / (scale d), where z / d is the cost of a point; its negative where the objective is to be greatest
 abbrev pub value_at : Instance → ℤ → ℤ → Fraction
-value_at a z d = record { num = z +ℤ (a.offset *ℤ d); den = a.scale *ℤ d }
+value_at a z d = record { num = signed a.sense (z +ℤ (a.offset *ℤ d)); den = a.scale *ℤ d }
 
 -- that value in lowest terms
 pub record IsValue (a : Instance) (z d : ℤ) (value : Fraction) : Type 0 where

@@ -3,12 +3,13 @@ use Rattle.std.specs.Prelude.{◌≡◌, ◌<◌, ℕ, ℤ, pos, ◌+ℤ◌, ◌
 use Rattle.lp_nums.specs.Fractions.{SameValue}
 use Rattle.lpcc_case.specs.declared.verdict.Verdict.{Verdict}
 use Rattle.lpcc_case.specs.declared.verdict.Verdict.TheVariants.{Optimal, Infeasible, Unbounded}
+use Rattle.sense.specs.Senses.{signed}
 use Rattle.lpcc_case.specs.Instance.{Instance}
 use Rattle.lpcc_case.specs.Points.{Point, IsFeasible, IsLower, cost_at}
 
--- (cost x + offset) / scale at the point is numerator / denominator
+-- (cost x + offset) / scale at the point, negated where the objective is to be greatest, is numerator / denominator
 abbrev pub HasValue : (a : Instance) → Point a.columns → ℤ → ℕ → Type 0
-HasValue a p numerator denominator = ((cost_at a p +ℤ (a.offset *ℤ pos p.d)) *ℤ pos denominator) ≡ (numerator *ℤ (a.scale *ℤ pos p.d))
+HasValue a p numerator denominator = (signed a.sense (cost_at a p +ℤ (a.offset *ℤ pos p.d)) *ℤ pos denominator) ≡ (numerator *ℤ (a.scale *ℤ pos p.d))
 
 -- a feasible point has this value, and no feasible point is lower
 abbrev pub IsOptimal : Instance → ℤ → ℕ → Type 0

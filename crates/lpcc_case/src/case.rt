@@ -6,6 +6,7 @@ ghost use Rattle.lpcc_case.specs.Instance.{chosen, chosen_number};
 use crate::Constraint;
 use lp_base::Sequence;
 use nogoods::{Choice, Side};
+use sense::Sense;
 use std::alloc::{AllocError, Global};
 use std::marker::Model;
 
@@ -17,6 +18,7 @@ pub struct Case {
     cost: Sequence<i64>,
     scale: i64,
     offset: i64,
+    sense: Sense,
     constraints: Sequence<Constraint>,
     pairs: Sequence<(u32, u32)>,
 }
@@ -28,9 +30,9 @@ impl Model for Case {
 
     ghost use Rattle.lpcc_case.specs.Cases.{IsCase, instance_of};
 
-    ghost view = { λ c. instance_of c.columns c.cost c.scale c.offset c.constraints c.pairs };
+    ghost view = { λ c. instance_of c.columns c.cost c.scale c.offset c.sense c.constraints c.pairs };
 
-    ghost invariant = { λ c. IsCase (instance_of c.columns c.cost c.scale c.offset c.constraints c.pairs) };
+    ghost invariant = { λ c. IsCase (instance_of c.columns c.cost c.scale c.offset c.sense c.constraints c.pairs) };
 }
 
 impl Case {
@@ -41,17 +43,19 @@ impl Case {
         cost: Sequence<i64>,
         scale: i64,
         offset: i64,
+        sense: Sense,
         constraints: Sequence<Constraint>,
         pairs: Sequence<(u32, u32)>,
     ) -> Case
-        requires { IsCase (instance_of columns cost scale offset constraints pairs) }
-        ensures { result ≡ instance_of columns cost scale offset constraints pairs }
+        requires { IsCase (instance_of columns cost scale offset sense constraints pairs) }
+        ensures { result ≡ instance_of columns cost scale offset sense constraints pairs }
     {
         Case {
             columns,
             cost,
             scale,
             offset,
+            sense,
             constraints,
             pairs,
         }
@@ -86,6 +90,13 @@ impl Case {
         ensures kept { IsCase self.now }
     {
         self.offset
+    }
+
+    /// Whether the objective is to be least or greatest. The cost is to be least in either.
+    pub fn sense(&self) -> Sense
+        ensures { result ≡ self.now.sense }
+    {
+        self.sense
     }
 
     /// The constraints, counted from 0.
@@ -138,6 +149,7 @@ impl Case {
             cost,
             self.scale,
             self.offset,
+            self.sense,
             constraints,
             pairs,
         ))

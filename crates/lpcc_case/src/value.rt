@@ -18,7 +18,8 @@ pub fn lower(a: &Point, b: &Point) -> bool
     compare(a.z, a.d, b.z, b.d) == Ordering::Less
 }
 
-fn numerator(case: &Case, point: &Point) -> i128
+/// The cost with the offset.
+fn with_offset(case: &Case, point: &Point) -> i128
     requires positive { pos 1 ≤ℤ point.now.d }
     requires room { unsigned_abs point.now.z ≤ 2 ^ 126 }
     ensures value { result ≡ point.now.z +ℤ (case.now.offset *ℤ point.now.d) }
@@ -35,14 +36,17 @@ fn denominator(case: &Case, point: &Point) -> i128
     product(case.scale(), point.d)
 }
 
-/// The value of the point with scale and offset, `(z + offset * d) / (scale * d)`, in lowest
-/// terms. It takes no memory.
+/// The value of the point: `(z + offset * d) / (scale * d)`, negated where the objective is to be
+/// greatest, in lowest terms. It takes no memory.
 pub fn value_of(case: &Case, point: &Point) -> Frac
     requires positive { pos 1 ≤ℤ point.now.d }
     requires room { unsigned_abs point.now.z ≤ 2 ^ 126 }
     ensures { IsValue case.now point.now.z point.now.d result }
 {
-    Frac::reduced(numerator(case, point), denominator(case, point))
+    Frac::reduced(
+        case.sense().signed(with_offset(case, point)),
+        denominator(case, point),
+    )
 }
 
 /// The text of `value_of`: `N`, or `N/D` where the denominator is not 1.

@@ -4,7 +4,7 @@ use Rattle.std.specs.List.{list_all}
 use Rattle.std.specs.Str.{bytes_eq}
 use Rattle.std.specs.Prelude.{codes}
 use Rattle.mps_lex.specs.declared.line.LineKind.TheVariants.{Comment, Head, LeftOut}
-use Rattle.mps_lex.specs.declared.line.Section.TheVariants.{Name as NameSection}
+use Rattle.mps_lex.specs.declared.line.Section.TheVariants.{Name as NameSection, ObjSense}
 use Rattle.mps_lex.specs.declared.line.Section.{Section}
 use Rattle.mps_lex.specs.Kinds.{Name, is_blank, ends_here, onto_field, fields, section_named, is_left_out, head_alone, kind_alone, kind_at_margin, kind_indented, kind_of, is_passed}
 
@@ -41,12 +41,13 @@ alone_passed w (v ∷ ws) = refl
 
 margin_passed : (fs : List Name) → is_passed (kind_at_margin fs) ≡ none fs
 margin_passed [] = refl
-margin_passed (w ∷ ws) = by (bytes_eq w (codes "NAME")) (is_left_out w)
+margin_passed (w ∷ ws) = by (bytes_eq w (codes "NAME")) (bytes_eq w (codes "OBJSENSE")) (is_left_out w)
   where
-    by : (a b : Bool) → is_passed (cond a (Head NameSection) (cond b LeftOut (kind_alone w ws))) ≡ false
-    by true b = refl
-    by false true = refl
-    by false false = alone_passed w ws
+    by : (a b c : Bool) → is_passed (cond a (Head NameSection) (cond b (Head ObjSense) (cond c LeftOut (kind_alone w ws)))) ≡ false
+    by true b c = refl
+    by false true c = refl
+    by false false true = refl
+    by false false false = alone_passed w ws
 
 first_passed : (star blank : Bool) (fs : List Name) (all : Bool) → star ≡ false → none fs ≡ all → is_passed (cond star Comment (cond blank (kind_indented fs) (kind_at_margin fs))) ≡ all
 first_passed true blank fs all e h = absurd cc

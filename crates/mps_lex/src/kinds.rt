@@ -15,6 +15,9 @@ fn section_named(word: &[u8]) -> Option<Section>
     if word == b"NAME".as_slice() {
         return Some(Section::Name);
     }
+    if word == b"OBJSENSE".as_slice() {
+        return Some(Section::ObjSense);
+    }
     if word == b"ROWS".as_slice() {
         return Some(Section::Rows);
     }
@@ -33,6 +36,9 @@ fn section_named(word: &[u8]) -> Option<Section>
     if word == b"PAIRS".as_slice() {
         return Some(Section::Pairs);
     }
+    if word == b"GROUPS".as_slice() {
+        return Some(Section::Groups);
+    }
     if word == b"ENDATA".as_slice() {
         return Some(Section::Endata);
     }
@@ -43,8 +49,7 @@ fn section_named(word: &[u8]) -> Option<Section>
 fn is_left_out(word: &[u8]) -> bool
     ensures { result ≡ is_left_out word.now }
 {
-    word == b"OBJSENSE".as_slice()
-        || word == b"OBJSENSEMAX".as_slice()
+    word == b"OBJSENSEMAX".as_slice()
         || word == b"OBJNAME".as_slice()
         || word == b"SOS".as_slice()
         || word == b"SOS1".as_slice()
@@ -56,10 +61,9 @@ fn is_left_out(word: &[u8]) -> bool
         || word == b"QCMATRIX".as_slice()
         || word == b"CSECTION".as_slice()
         || word == b"INDICATORS".as_slice()
-        || word == b"GROUPS".as_slice()
 }
 
-// A line whose first field is neither NAME nor a left-out word.
+// A line whose first field is neither NAME nor OBJSENSE nor a left-out word.
 fn kind_alone(word: &[u8], others: &[&[u8]]) -> LineKind
     ensures { result ≡ kind_alone word.now (map shown others.now) }
 {
@@ -80,6 +84,9 @@ fn kind_at_margin(fields: &[&[u8]]) -> LineKind
         [word, others @ ..] => {
             if *word == b"NAME".as_slice() {
                 return LineKind::Head(Section::Name);
+            }
+            if *word == b"OBJSENSE".as_slice() {
+                return LineKind::Head(Section::ObjSense);
             }
             if is_left_out(*word) {
                 return LineKind::LeftOut;

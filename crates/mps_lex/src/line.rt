@@ -14,12 +14,14 @@ use std::alloc::{AllocError, Global};
 #[derive(Clone, Copy, Debug, PartialEq, Eq)]
 pub enum Section {
     Name,
+    ObjSense,
     Rows,
     Columns,
     Rhs,
     Ranges,
     Bounds,
     Pairs,
+    Groups,
     Endata,
 }
 

@@ -1,5 +1,7 @@
 pub mod Judging
 pub mod GrowingBounds
+pub mod GroupWords
+pub mod GrowingGroups
 pub mod Growing
 pub mod Steps
 pub mod Reading

@@ -10,12 +10,16 @@ use Rattle.decks.specs.declared.fault.DeckWhy.TheVariants.{NotClosed}
 use Rattle.decks.specs.declared.fault.DeckFault.{DeckFault}
 use Rattle.decks.specs.declared.fault.DeckFault.TheVariants.{NoMemory, At}
 use Rattle.mps_pairs.specs.declared.sections.SectionState.{SectionState}
+use Rattle.sense.specs.declared.objective.Sense.{Sense}
+use Rattle.mps_lex.specs.declared.line.Section.{Section}
+use Rattle.mps_lex.specs.declared.line.Section.TheVariants.{Name as NameSection, ObjSense, Rows, Columns, Rhs, Ranges, Bounds, Pairs, Groups, Endata}
+use Rattle.decks.specs.Senses.{earlier}
 use Rattle.decks.specs.Sections.{Open}
 use Rattle.decks.specs.Spelling.{size_of, deck_of}
 use Rattle.decks.specs.Faults.{Found, fault_of}
 use Rattle.decks.specs.Texts.{IsClean, Spells, Fails, FailsAs, ends_deck}
 use Rattle.decks.proofs.Relations.{Read, Answer, answer, answer_from, judged, read_of, given_spelled, given_fails}
-use Rattle.mps_pairs.specs.Known.{section_state, next_section_state, Known, known, next_kind, next_known, deck_from, line_fault}
+use Rattle.mps_pairs.specs.Known.{section_state, next_section_state, Known, known, with_head, next_kind, next_known, deck_from, line_fault}
 use Rattle.mps_pairs.specs.Answers.{TellsAt}
 use Rattle.decks.proofs.KeptSlices.{lines_right}
 use Rattle.mps_pairs.proofs.Steps.{section_state_push, fault_same, known_push, deck_same}
@@ -69,11 +73,27 @@ judge o p a b d later e f = λ i. judged (e i) (f i) d later
 
 -- ---- the exits
 
+none_later : (o : Option Sense) → earlier o None ≡ o
+none_later None = refl
+none_later (Some s) = refl
+
 -- ENDATA leaves the tables
+endata_same : (t : Section) (k : Known) (fs : List Name) → ends_deck (Head t) ≡ true → with_head k t fs ≡ k
+endata_same NameSection k fs e = absurd cc
+endata_same ObjSense k fs e = absurd cc
+endata_same Rows k fs e = absurd cc
+endata_same Columns k fs e = absurd cc
+endata_same Rhs k fs e = absurd cc
+endata_same Ranges k fs e = absurd cc
+endata_same Bounds k fs e = absurd cc
+endata_same Pairs k fs e = absurd cc
+endata_same Groups k fs e = absurd cc
+endata_same Endata k fs e = λ i. record k { sense = none_later k.sense i }
+
 ends_same : (s : Open) (k : Known) (n : ℕ) (kind : LineKind) (fs : List Name) → ends_deck kind ≡ true → next_kind s k n kind fs ≡ k
 ends_same s k n Blank fs e = refl
 ends_same s k n Comment fs e = refl
-ends_same s k n (Head t) fs e = refl
+ends_same s k n (Head t) fs e = endata_same t k fs e
 ends_same s k n LeftOut fs e = refl
 ends_same s k n Unknown fs e = refl
 ends_same s k n Entry fs e = absurd cc

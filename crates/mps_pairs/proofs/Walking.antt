@@ -6,11 +6,14 @@ use Rattle.std.proofs.lemmas.List.Elements.{filter-append}
 use Rattle.std.proofs.lemmas.List.Sums.{prefix_len-le-length}
 use Rattle.std.specs.Prelude.{position, unwrap_or, slice_get, is_some}
 use Rattle.std.specs.List.{position_or_len}
+use Rattle.sense.specs.declared.objective.Sense.{Sense}
+use Rattle.sense.specs.declared.objective.Sense.TheVariants.{Min}
 use Rattle.mps_lex.specs.Kinds.{Name}
 use Rattle.decks.specs.declared.deck.Column.{Column}
 use Rattle.decks.specs.declared.deck.Row as rows
 use Rattle.decks.specs.declared.deck.Entry.{Entry}
 use Rattle.decks.specs.declared.deck.PairLine.{PairLine}
+use Rattle.decks.specs.declared.deck.GroupLine.{GroupLine}
 use Rattle.decks.specs.declared.deck.Deck.{Deck}
 use Rattle.decks.specs.Spelling.{RowLine, RowValue, is_n, kept, deck_row}
 use Rattle.mps_tables.specs.Known.{bounds_with}
@@ -42,17 +45,13 @@ objective_same : (rights ranges : List RowValue) (rs : List RowLine) → positio
 objective_same rights ranges [] = refl
 objective_same rights ranges (r ∷ rs) = by_test (is_n r.letter) _ _ (objective_same rights ranges rs)
 
-abbrev deck_with : List rows.Row → ℕ → List Column → List Entry → List PairLine → ℕ → Deck
-deck_with rs objective columns entries pairs end_line = record { rows = rs; objective = objective; columns = columns; entries = entries; pairs = pairs; end_line = end_line }
+abbrev pub made_deck : Sense → List rows.Row → ℕ → List Column → List Entry → List PairLine → List GroupLine → ℕ → Deck
+made_deck sense rs objective columns entries pairs groups end_line = record { sense = sense; rows = rs; objective = objective; columns = columns; entries = entries; pairs = pairs; groups = groups; end_line = end_line }
 
 -- the deck that the tables make
-pub deck_taken : (k : Known) (end_line : ℕ) (rs : List rows.Row) (objective : ℕ) (columns : List Column) (entries : List Entry) (pairs : List PairLine) → rs ≡ map (deck_row k.rights.values k.ranges.values) (kept k.rows)
-    → objective ≡ position_or_len (λ r. is_n r.letter) rs → columns ≡ map (bounds_with k.bounds.columns) k.columns.names → entries ≡ k.columns.entries → pairs ≡ k.pairs.pairs → deck_with rs objective columns entries pairs end_line ≡ deck_from k end_line
-deck_taken k end_line rs objective columns entries pairs er eo ec ee ep =
-    let rs2 = map (deck_row k.rights.values k.ranges.values) (kept k.rows) in
-    let columns2 = map (bounds_with k.bounds.columns) k.columns.names in
+pub deck_taken : (k : Known) (end_line : ℕ) (sense : Sense) (rs : List rows.Row) (objective : ℕ) (columns : List Column) (entries : List Entry) (pairs : List PairLine) (groups : List GroupLine) → sense ≡ unwrap_or k.sense Min
+    → rs ≡ map (deck_row k.rights.values k.ranges.values) (kept k.rows) → objective ≡ position_or_len (λ r. is_n r.letter) rs → columns ≡ map (bounds_with k.bounds.columns) k.columns.names → entries ≡ k.columns.entries → pairs ≡ k.pairs.pairs
+    → groups ≡ k.groups.groups → made_deck sense rs objective columns entries pairs groups end_line ≡ deck_from k end_line
+deck_taken k end_line sense rs objective columns entries pairs groups es er eo ec ee ep eg =
     let place = eo ∙ ap (λ (x : List rows.Row). position_or_len (λ r. is_n r.letter) x) er ∙ objective_same k.rights.values k.ranges.values (kept k.rows) in
-    ap (λ (x : List rows.Row). deck_with x objective columns entries pairs end_line) er ∙ ap (λ (x : ℕ). deck_with rs2 x columns entries pairs end_line) place
-    ∙ ap (λ (x : List Column). deck_with rs2 (position_or_len (λ r. is_n r.letter) (kept k.rows)) x entries pairs end_line) ec
-    ∙ ap (λ (x : List Entry). deck_with rs2 (position_or_len (λ r. is_n r.letter) (kept k.rows)) columns2 x pairs end_line) ee
-    ∙ ap (λ (x : List PairLine). deck_with rs2 (position_or_len (λ r. is_n r.letter) (kept k.rows)) columns2 k.columns.entries x end_line) ep
+    λ i. made_deck (es i) (er i) (place i) (ec i) (ee i) (ep i) (eg i) end_line

@@ -1,12 +1,12 @@
 //! Pairs of quantities.
 ghost use Rattle.std.specs.Prelude.{◌≡◌, ◌≤◌, ◌∷◌, [], ◌++◌, false, IfOk, IfErr, OnOk, None, Some, length, map, unwrap_or};
 ghost use Rattle.mps_lex.specs.Shown.{shown};
-ghost use Rattle.decks.specs.declared.deck.Quantity.TheVariants.{Col, Row};
+ghost use Rattle.decks.specs.declared.deck.Quantity.TheVariants.{Col, Upc, Row};
 ghost use Rattle.decks.specs.Names.{has, place};
 ghost use Rattle.decks.specs.Numbers.{is_zero};
-ghost use Rattle.decks.specs.Spelling.{is_col, number_of_row, row_named, quantity_of};
+ghost use Rattle.decks.specs.Spelling.{is_col, is_upc, number_of_row, row_named, quantity_of};
 ghost use Rattle.decks.specs.Decks.{is_inequality};
-ghost use Rattle.decks.specs.Faults.{◌or◌, is_kind, is_free_from_zero, column_quantity_fault, row_quantity_fault, quantity_fault, pair_front_fault, quantities_fault, many_pairs_fault, pair_fault};
+ghost use Rattle.decks.specs.Faults.{◌or◌, is_kind, is_free_from_zero, column_quantity_fault, has_upper, upper_quantity_fault, row_quantity_fault, quantity_fault, pair_front_fault, quantities_fault, many_pairs_fault, pair_fault};
 ghost use Rattle.mps_pairs.specs.Fields.{pair_words};
 ghost use Rattle.mps_tables.specs.Known.{bounds_with};
 ghost use Rattle.mps_pairs.specs.Known.{known_pairs, with_pair};
@@ -51,10 +51,17 @@ fn is_col(word: &[u8]) -> bool
     word == b"COL".as_slice()
 }
 
-fn is_kind(word: &[u8]) -> bool
+fn is_upc(word: &[u8]) -> bool
+    ensures { result ≡ is_upc word.now }
+{
+    word == b"UPC".as_slice()
+}
+
+/// Whether the word is a kind of a quantity.
+pub fn is_kind(word: &[u8]) -> bool
     ensures { result ≡ is_kind word.now }
 {
-    word == b"COL".as_slice() || word == b"ROW".as_slice()
+    word == b"COL".as_slice() || word == b"ROW".as_slice() || word == b"UPC".as_slice()
 }
 
 fn is_inequality(letter: Letter) -> bool
@@ -102,6 +109,32 @@ fn column_quantity<'a>(
     Ok(Quantity::Col(index as u32))
 }
 
+fn has_upper(column: Column) -> bool
+    ensures { result ≡ has_upper column }
+{
+    !column.fixed && column.upper.value.is_some()
+}
+
+fn upper_quantity<'a>(
+    columns: &Names<'a>,
+    bounds: &BoundTable<'a>,
+    name: &'a [u8],
+) -> Result<Quantity, DeckWhy>
+    requires { length columns.now ≤ MOST_COLUMNS }
+    ensures right { IfOk result (λ q. upper_quantity_fault columns.now (bounds_with bounds.now.columns) name.now ≡ None) }
+    ensures value { IfOk result (λ q. q ≡ Upc (place columns.now name.now)) }
+    ensures fault { IfErr result (λ w. upper_quantity_fault columns.now (bounds_with bounds.now.columns) name.now ≡ Some w) }
+{
+    let index = columns.place(name);
+    if columns.is_new(index, name) {
+        return Err(DeckWhy::UnknownName);
+    }
+    if !has_upper(bounds.bounds(name)) {
+        return Err(DeckWhy::PairUpper);
+    }
+    Ok(Quantity::Upc(index as u32))
+}
+
 fn row_quantity<'a>(rows: &RowTable<'a>, name: &'a [u8]) -> Result<Quantity, DeckWhy>
     ensures right { IfOk result (λ q. row_quantity_fault (row_named rows.now name.now) ≡ None) }
     ensures value { IfOk result (λ q. q ≡ Row (unwrap_or (number_of_row (row_named rows.now name.now)) 0)) }
@@ -118,7 +151,8 @@ fn row_quantity<'a>(rows: &RowTable<'a>, name: &'a [u8]) -> Result<Quantity, Dec
     }
 }
 
-fn quantity<'a>(
+/// The quantity of a kind and a name.
+pub fn quantity<'a>(
     rows: &RowTable<'a>,
     columns: &Names<'a>,
     bounds: &BoundTable<'a>,
@@ -132,6 +166,9 @@ fn quantity<'a>(
 {
     if is_col(kind) {
         return column_quantity(columns, bounds, name);
+    }
+    if is_upc(kind) {
+        return upper_quantity(columns, bounds, name);
     }
     row_quantity(rows, name)
 }
@@ -161,6 +198,13 @@ impl<'a> PairTable<'a> {
             names: Names::new(alloc),
             pairs: Sequence::new(alloc),
         }
+    }
+
+    /// The number of pairs.
+    pub fn len(&self) -> usize
+        ensures { result ≡ length self.now.names }
+    {
+        self.names.len()
     }
 
     /// Takes the pairs out.

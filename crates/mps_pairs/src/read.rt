@@ -1,24 +1,27 @@
 //! Reading a deck.
-ghost use Rattle.std.specs.Prelude.{◌≡◌, ◌+◌, ◌-◌, ◌<◌, ◌≤◌, ◌^◌, OnOk, IfOk, IfErr, Ok, Err, Option, None, Some, true, ℕ, [], length};
+ghost use Rattle.std.specs.Prelude.{◌≡◌, ◌+◌, ◌-◌, ◌<◌, ◌≤◌, ◌^◌, OnOk, IfOk, IfErr, Ok, Err, Option, None, Some, true, ℕ, [], length, map};
 ghost use Rattle.mps_lex.specs.Lines.{line_of};
-ghost use Rattle.mps_lex.specs.Shown.{seen_line};
+ghost use Rattle.mps_lex.specs.Shown.{seen_line, shown};
 ghost use Rattle.decks.specs.declared.deck.Deck as spelled;
 ghost use Rattle.decks.specs.declared.fault.DeckWhy as why;
 ghost use Rattle.decks.specs.declared.fault.DeckWhy.TheVariants.{LeftOutSection};
 ghost use Rattle.decks.specs.declared.fault.DeckFault.TheVariants.{At};
 ghost use Rattle.decks.specs.Decks.{IsDeck};
-ghost use Rattle.decks.specs.Faults.{◌or◌, named_at};
+ghost use Rattle.decks.specs.Faults.{◌or◌, head_words_fault, named_at};
+ghost use Rattle.decks.specs.Senses.{sense_on_head};
 ghost use Rattle.decks.specs.Texts.{Spells, Fails, FailsAs, ends_deck, found_by};
 ghost use Rattle.lp_base.specs.Answers.{Gives, Refuses};
-ghost use Rattle.mps_tables.specs.Answers.{Tells};
-ghost use Rattle.mps_pairs.specs.Known.{known, section_state, begin, next_section_state, section_order_fault, known_fault, known_end_fault, line_fault, with_data, next_known, deck_from};
+ghost use Rattle.mps_tables.specs.Answers.{Checks, Tells};
+ghost use Rattle.mps_pairs.specs.Known.{known, section_state, begin, next_section_state, section_order_fault, known_fault, known_end_fault, line_fault, with_data, with_head, next_known, deck_from};
 ghost use Rattle.mps_pairs.specs.Answers.{TellsAt, JudgesAt};
 
 use crate::sections::SectionState;
+use crate::senses::sense_of_head;
 use crate::tables::Tables;
 use decks::{Deck, DeckFault, DeckWhy};
 use mps_lex::{LineKind, Section, SplitLine, first_piece, line_of};
 use mps_tables::Fault;
+use sense::Sense;
 use std::alloc::{AllocError, Global};
 
 // The fault at a line.
@@ -56,11 +59,31 @@ fn check_end<'a>(state: SectionState, tables: &Tables<'a>, number: u32) -> Resul
     }
 }
 
-fn check_order(state: SectionState, number: u32, next: Section) -> Result<(), DeckFault>
-    ensures { JudgesAt result (named_at number (section_order_fault state next)) }
+// Checks that a head stands in its order, and gives the sense that it names behind its word.
+#[tactic(auto, using(mps_tables::proofs::Judging::first_is, mps_tables::proofs::Judging::then_is))]
+fn words_in_order(
+    state: SectionState,
+    next: Section,
+    fields: &[&[u8]],
+) -> Result<Option<Sense>, DeckWhy>
+    ensures fault { Checks result (section_order_fault state next or head_words_fault next (map shown fields.now)) }
+    ensures value { IfOk result (λ o. o ≡ sense_on_head next (map shown fields.now)) }
 {
-    match state.check(next) {
-        Ok(()) => Ok(()),
+    state.check(next)?;
+    sense_of_head(next, fields)
+}
+
+fn check_head(
+    state: SectionState,
+    number: u32,
+    next: Section,
+    fields: &[&[u8]],
+) -> Result<Option<Sense>, DeckFault>
+    ensures fault { JudgesAt result (named_at number (section_order_fault state next or head_words_fault next (map shown fields.now))) }
+    ensures value { IfOk result (λ o. o ≡ sense_on_head next (map shown fields.now)) }
+{
+    match words_in_order(state, next, fields) {
+        Ok(sense) => Ok(sense),
         Err(why) => Err(DeckFault::At { line: number, why }),
     }
 }
@@ -82,20 +105,23 @@ fn left_out<'a>(state: SectionState, tables: &Tables<'a>, number: u32) -> DeckFa
 #[tactic(auto, using(crate::proofs::Judging::first_tells_at, crate::proofs::Judging::then_judges_at))]
 fn parse_head<'a>(
     state: &mut SectionState,
-    tables: &Tables<'a>,
-    number: u32,
+    tables: &mut Tables<'a>,
     next: Section,
+    line: &SplitLine<'a>,
 ) -> Result<(), DeckFault>
-    ensures fault { JudgesAt result (known_end_fault state.old tables.now number or named_at number (section_order_fault state.old next)) }
+    ensures fault { JudgesAt result (known_end_fault state.old tables.old (seen_line line.now).number or named_at (seen_line line.now).number (section_order_fault state.old next or head_words_fault next (seen_line line.now).fields)) }
     ensures state { OnOk result (state.new ≡ begin state.old next) }
+    ensures tables { OnOk result (tables.new ≡ with_head tables.old next (seen_line line.now).fields) }
 {
-    check_end(*state, tables, number)?;
-    check_order(*state, number, next)?;
+    check_end(*state, tables, line.number)?;
+    let sense = check_head(*state, line.number, next, &line.fields)?;
     *state = state.begin(next);
+    tables.note(sense);
     Ok(())
 }
 
 fn parse_entry<'a>(
+    alloc: Global,
     current: Option<Section>,
     tables: &mut Tables<'a>,
     line: &SplitLine<'a>,
@@ -103,7 +129,7 @@ fn parse_entry<'a>(
     ensures fault { JudgesAt result (named_at (seen_line line.now).number (known_fault current tables.old (seen_line line.now).fields)) }
     ensures tables { OnOk result (tables.new ≡ with_data current tables.old (seen_line line.now).number (seen_line line.now).fields) }
 {
-    match tables.parse_data(current, line.number, &line.fields) {
+    match tables.parse_data(alloc, current, line.number, &line.fields) {
         Err(fault) => Err(at_line(fault, line.number)),
         Ok(()) => Ok(()),
     }
@@ -111,6 +137,7 @@ fn parse_entry<'a>(
 
 // Parses a line by its kind.
 fn parse_line<'a>(
+    alloc: Global,
     state: &mut SectionState,
     tables: &mut Tables<'a>,
     line: &SplitLine<'a>,
@@ -126,8 +153,8 @@ fn parse_line<'a>(
             why: DeckWhy::UnknownSection,
         }),
         LineKind::LeftOut => Err(left_out(*state, tables, line.number)),
-        LineKind::Head(next) => parse_head(state, tables, line.number, next),
-        LineKind::Entry => parse_entry(state.current, tables, line),
+        LineKind::Head(next) => parse_head(state, tables, next, line),
+        LineKind::Entry => parse_entry(alloc, state.current, tables, line),
     }
 }
 
@@ -153,7 +180,7 @@ fn parse_piece<'a>(
     match line_of(alloc, number, piece) {
         Err(error) => Err(DeckFault::NoMemory(error)),
         Ok(line) => {
-            parse_line(state, tables, &line)?;
+            parse_line(alloc, state, tables, &line)?;
             Ok(ends_deck(line.kind))
         }
     }

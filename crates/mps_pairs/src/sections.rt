@@ -22,13 +22,15 @@ fn section_number(section: Section) -> u8
 {
     match section {
         Section::Name => 1,
-        Section::Rows => 2,
-        Section::Columns => 3,
-        Section::Rhs => 4,
-        Section::Ranges => 5,
-        Section::Bounds => 6,
-        Section::Pairs => 7,
-        Section::Endata => 8,
+        Section::ObjSense => 2,
+        Section::Rows => 3,
+        Section::Columns => 4,
+        Section::Rhs => 5,
+        Section::Ranges => 6,
+        Section::Bounds => 7,
+        Section::Pairs => 8,
+        Section::Groups => 9,
+        Section::Endata => 10,
     }
 }
 
@@ -43,11 +45,13 @@ fn rank(section: Section) -> u8
 {
     match section {
         Section::Name => 1,
-        Section::Rows => 2,
-        Section::Columns => 3,
-        Section::Rhs | Section::Ranges | Section::Bounds => 4,
-        Section::Pairs => 5,
-        Section::Endata => 6,
+        Section::ObjSense => 2,
+        Section::Rows => 3,
+        Section::Columns => 4,
+        Section::Rhs | Section::Ranges | Section::Bounds => 5,
+        Section::Pairs => 6,
+        Section::Groups => 7,
+        Section::Endata => 8,
     }
 }
 
@@ -65,11 +69,13 @@ fn may_follow(from: u8, begun: bool, next: Section) -> bool
 {
     match next {
         Section::Name => from <= 0,
-        Section::Rows => from <= 1,
-        Section::Columns => from == 2,
-        Section::Rhs | Section::Ranges | Section::Bounds => 3 <= from && from <= 4 && !begun,
-        Section::Pairs => 3 <= from && from <= 4,
-        Section::Endata => 3 <= from && from <= 5,
+        Section::ObjSense => from <= 1,
+        Section::Rows => from <= 2,
+        Section::Columns => from == 3,
+        Section::Rhs | Section::Ranges | Section::Bounds => 4 <= from && from <= 5 && !begun,
+        Section::Pairs => 4 <= from && from <= 5,
+        Section::Groups => 4 <= from && from <= 6,
+        Section::Endata => 4 <= from && from <= 7,
     }
 }
 
@@ -93,8 +99,13 @@ impl SectionState {
             Section::Rhs => self.rhs,
             Section::Ranges => self.ranges,
             Section::Bounds => self.bounds,
-            Section::Name | Section::Rows | Section::Columns | Section::Pairs | Section::Endata =>
-                false,
+            Section::Name
+            | Section::ObjSense
+            | Section::Rows
+            | Section::Columns
+            | Section::Pairs
+            | Section::Groups
+            | Section::Endata => false,
         }
     }
 

@@ -5,31 +5,38 @@ ghost use Rattle.mps_lex.specs.Shown.{shown};
 ghost use Rattle.decks.specs.Spelling.{is_n, has_objective, kept, deck_row};
 ghost use Rattle.mps_tables.specs.Known.{bounds_with, with_bound};
 ghost use Rattle.mps_tables.specs.Answers.{Judges};
-ghost use Rattle.mps_pairs.specs.Known.{known, known_fault, with_pair, with_data, deck_from};
+ghost use Rattle.decks.specs.Senses.{earlier, sense_on_head, sense_on_line};
+ghost use Rattle.mps_pairs.specs.Groups.{known_group_fault, with_group};
+ghost use Rattle.mps_pairs.specs.Known.{known, known_fault, with_pair, with_data, with_head, deck_from};
 ghost use Rattle.decks.specs.Bounds.{below_zero_line};
-ghost use Rattle.decks.specs.Faults.{bound_fault, pair_fault};
+ghost use Rattle.decks.specs.Faults.{bound_fault, pair_fault, sense_fault};
 ghost use Rattle.mps_tables.specs.Seen.{seen_row};
 ghost use Rattle.decks.specs.Names.{named};
 ghost use Rattle.decks.specs.Decks.{zero};
 
+use crate::groups::GroupTable;
 use crate::pairs::PairTable;
+use crate::senses::sense_of_line;
 use decks::{Column, Deck, DeckWhy, Letter, Row};
 use lp_base::{MOST_ROWS, Sequence};
 use lp_nums::Frac;
 use mps_lex::Section;
 use mps_tables::{BoundTable, ColumnTable, Fault, Names, RowState, RowTable, RowValueTable, is_n};
+use sense::Sense;
 use std::alloc::{AllocError, Global};
 use std::marker::Model;
 
 /// What is known of the lines so far.
 #[derive(Drop)]
 pub struct Tables<'a> {
+    sense: Option<Sense>,
     rows: RowTable<'a>,
     columns: ColumnTable<'a>,
     rights: RowValueTable<'a>,
     ranges: RowValueTable<'a>,
     bounds: BoundTable<'a>,
     pairs: PairTable<'a>,
+    groups: GroupTable<'a>,
 }
 
 impl<'a> Model for Tables<'a> {
@@ -37,7 +44,7 @@ impl<'a> Model for Tables<'a> {
 
     ghost Value = { Known };
 
-    ghost view = { λ t. record { rows = t.rows; columns = t.columns; rights = t.rights; ranges = t.ranges; bounds = t.bounds; pairs = t.pairs } };
+    ghost view = { λ t. record { sense = t.sense; rows = t.rows; columns = t.columns; rights = t.rights; ranges = t.ranges; bounds = t.bounds; pairs = t.pairs; groups = t.groups } };
 }
 
 // The right-hand side of a row, or 0.
@@ -141,12 +148,14 @@ impl<'a> Tables<'a> {
         ensures { result ≡ known [] }
     {
         Tables {
+            sense: None,
             rows: RowTable::new(alloc),
             columns: ColumnTable::new(alloc),
             rights: RowValueTable::new(alloc),
             ranges: RowValueTable::new(alloc),
             bounds: BoundTable::new(alloc),
             pairs: PairTable::new(alloc),
+            groups: GroupTable::new(alloc),
         }
     }
 
@@ -180,9 +189,46 @@ impl<'a> Tables<'a> {
             .parse(&self.rows, self.columns.names(), &self.bounds, fields)
     }
 
+    fn parse_group(&mut self, alloc: Global, fields: &[&'a [u8]]) -> Result<(), Fault>
+        ensures fault { Judges result (known_group_fault self.old.rows self.old.columns.names (bounds_with self.old.bounds.columns) self.old.groups (length self.old.pairs.names) (map shown fields.now)) }
+        ensures ok { OnOk result (self.new ≡ record self.old { groups = with_group self.old.rows self.old.columns.names self.old.groups (map shown fields.now) }) }
+    {
+        self.groups.parse(
+            alloc,
+            &self.rows,
+            self.columns.names(),
+            &self.bounds,
+            self.pairs.len(),
+            fields,
+        )
+    }
+
+    fn parse_sense(&mut self, fields: &[&'a [u8]]) -> Result<(), Fault>
+        ensures fault { Judges result (sense_fault self.old.sense (map shown fields.now)) }
+        ensures ok { OnOk result (self.new ≡ record self.old { sense = earlier self.old.sense (sense_on_line (map shown fields.now)) }) }
+    {
+        match sense_of_line(self.sense, fields) {
+            Ok(sense) => {
+                self.sense = Some(sense);
+                Ok(())
+            }
+            Err(why) => Err(Fault::Of(why)),
+        }
+    }
+
+    /// Notes the sense that a head names, where none is named before it.
+    pub fn note(&mut self, sense: Option<Sense>)
+        ensures { self.new ≡ record self.old { sense = earlier self.old.sense sense } }
+    {
+        if self.sense.is_none() {
+            self.sense = sense;
+        }
+    }
+
     /// Takes a data line of what stands open.
     pub fn parse_data(
         &mut self,
+        alloc: Global,
         current: Option<Section>,
         number: u32,
         fields: &[&'a [u8]],
@@ -191,12 +237,14 @@ impl<'a> Tables<'a> {
         ensures ok { OnOk result (self.new ≡ with_data current self.old number (map shown fields.now)) }
     {
         match current {
+            Some(Section::ObjSense) => self.parse_sense(fields),
             Some(Section::Rows) => self.rows.parse(number, fields),
             Some(Section::Columns) => self.columns.parse(&self.rows, fields),
             Some(Section::Rhs) => self.rights.parse(&self.rows, fields),
             Some(Section::Ranges) => self.ranges.parse(&self.rows, fields),
             Some(Section::Bounds) => self.parse_bound(number, fields),
             Some(Section::Pairs) => self.parse_pair(fields),
+            Some(Section::Groups) => self.parse_group(alloc, fields),
             None | Some(Section::Name | Section::Endata) => {
                 Err(Fault::Of(DeckWhy::SectionOrder))
             }
@@ -210,11 +258,13 @@ impl<'a> Tables<'a> {
         let rows = deck_rows(alloc, &self.rows, &self.rights, &self.ranges)?;
         let columns = deck_columns(alloc, self.columns.names(), &self.bounds)?;
         Ok(Deck {
+            sense: self.sense.unwrap_or(Sense::Min),
             objective: objective_of(rows.as_slice()) as u32,
             rows,
             columns,
             entries: self.columns.take_entries(alloc),
             pairs: self.pairs.take_pairs(alloc),
+            groups: self.groups.take_groups(alloc),
             end_line,
         })
     }

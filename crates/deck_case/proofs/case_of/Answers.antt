@@ -1,12 +1,22 @@
 use Rattle.std.proofs.Common.{◌≡◌, ◌≤◌, ◌++◌, ◌∙◌, ap, arith, rules, sym, [], length, map, FitsSigned}
 use mir.Syntax.{w64}
+use Rattle.std.specs.Prelude.{◌⊎◌}
+use Rattle.deck_case.specs.declared.fault.CaseFault.{CaseFault}
+use Rattle.deck_case.specs.Faults.{IsNoMemory}
 use Rattle.std.specs.List.{enumerate_from, flat_map, range_with_len}
 use Rattle.lp_base.proofs.Machine.{again_64}
 use Rattle.deck_case.specs.CaseParts.{column_constraints, constraints_of, constraints_of_columns}
 use Rattle.deck_case.specs.Wide.{wide_column, wide_lines}
 use Rattle.deck_case.proofs.BoundSteps.{behind}
 use Rattle.deck_case.proofs.CaseFacts.{is_case_of_parts}
+use Rattle.deck_case.proofs.FaultLaws.{body_fault}
+use Rattle.deck_case.proofs.RowSteps.{passed_on}
 use Rattle.deck_case.proofs.case_of.Goals as goal
+
+pub returns-in_err-body-clause-named : goal.returns-in_err-body-clause-named
+returns-in_err-body-clause-named c =
+    let fault = c.in_err-body.field-0.0 in
+    λ f has. passed_on c.from_residual-in_err-body.result fault (λ (g : CaseFault). IsNoMemory g ⊎ (g ≡ f)) c.from_residual-in_err-body.ensures.1 (body_fault c.args.deck.now fault f c.in_err-body.ensures.err has)
 
 pub numbers-requires-clause-columns : goal.numbers-requires-clause-columns
 numbers-requires-clause-columns c =

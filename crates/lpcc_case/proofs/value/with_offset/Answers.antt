@@ -1,7 +1,7 @@
 use Rattle.std.proofs.Common.{◌∙◌, rules, ap, ◌+ℤ◌}
 use Rattle.lp_base.specs.Numbers.{IsNarrow}
 use Rattle.lpcc_case.proofs.Products.{given_product, sum_again, sum_small}
-use Rattle.lpcc_case.proofs.value.numerator.Goals as goal
+use Rattle.lpcc_case.proofs.value.with_offset.Goals as goal
 
 pub returns-clause-value : goal.returns-clause-value
 returns-clause-value c =

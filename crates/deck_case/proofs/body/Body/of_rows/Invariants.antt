@@ -5,7 +5,7 @@ use Rattle.deck_case.specs.CaseParts.{constraints_of_rows, cost_of, offset_of, s
 use Rattle.deck_case.specs.DeckCases.{before_row}
 use Rattle.deck_case.specs.DeckPoints.{row_at}
 use Rattle.deck_case.specs.Wide.{wide_rows}
-use Rattle.deck_case.proofs.body.Body.of_deck.Given as goal
+use Rattle.deck_case.proofs.body.Body.of_rows.Given as goal
 
 abbrev pub invariant-loop-number : goal.invariant-loop-number
 invariant-loop-number l = record {
