@@ -9,11 +9,11 @@ use Rattle.cert_text.specs.declared.cert.CertLine.{CertLine}
 use Rattle.cert_text.specs.Certs.{no_good_of}
 use Rattle.cert_check.specs.Acceptance.{EndsEmpty}
 
-empty_from_length : (cs : List Choice) → (length cs == 0) ≡ true → cs ≡ []
+pub empty_from_length : (cs : List Choice) → (length cs == 0) ≡ true → cs ≡ []
 empty_from_length [] e = refl
 empty_from_length (c ∷ cs) e = let none : length (c ∷ cs) ≡ 0 = eqb-true (length (c ∷ cs)) 0 e in absurd (omega arith)
 
-length_from_empty : (cs : List Choice) → cs ≡ [] → (length cs == 0) ≡ true
+pub length_from_empty : (cs : List Choice) → cs ≡ [] → (length cs == 0) ≡ true
 length_from_empty cs e = ap (λ (xs : List Choice). length xs == 0) e
 
 pub ends_at : (lines : List CertLine) (line : CertLine) (cs ng : List Choice) (result : Bool) → Some line ≡ slice_get lines (length lines - 1) → ng ≡ no_good_of line → cs ≡ ng → result ≡ (length cs == 0) → IsTrue result ↔ EndsEmpty lines

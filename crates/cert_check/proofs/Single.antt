@@ -36,7 +36,7 @@ point_cut_one a (Some value) ng e mult v w (inl x) (inr y) = absurd (x.1 y.1)
 point_cut_one a (Some value) ng e mult v w (inr x) (inl y) = absurd (y.1 x.1)
 point_cut_one a (Some value) ng e mult v w (inr x) (inr y) = x.0 ∙ sym y.0
 
-no_good_one : (a : Instance) (value : Option (ℤ × ℤ)) (earlier : List (List Choice)) (line : CertLine) (v w : NoWhy) → NoGoodFails a value earlier line v → NoGoodFails a value earlier line w → v ≡ w
+pub no_good_one : (a : Instance) (value : Option (ℤ × ℤ)) (earlier : List (List Choice)) (line : CertLine) (v w : NoWhy) → NoGoodFails a value earlier line v → NoGoodFails a value earlier line w → v ≡ w
 no_good_one a value earlier (Ray ng mult) v w x y = x.0 ∙ sym y.0
 no_good_one a value earlier (PointCut ng e mult) v w x y = point_cut_one a value ng e mult v w x y
 no_good_one a value earlier (Derived ng hints) v w x y = x.0 ∙ sym y.0
@@ -85,7 +85,7 @@ unbounded_one a piece point ray n v w (inr (inr x)) (inl y) = absurd (omega (ari
 unbounded_one a piece point ray n v w (inr (inr x)) (inr (inl y)) = absurd (omega (arith, x.0, y.0))
 unbounded_one a piece point ray n v w (inr (inr x)) (inr (inr y)) = x.1 ∙ sym y.1
 
-one_reason : (a : Instance) (cert : Cert) (n : ℕ) (v w : NoWhy) → LineFails a cert n v → LineFails a cert n w → v ≡ w
+pub one_reason : (a : Instance) (cert : Cert) (n : ℕ) (v w : NoWhy) → LineFails a cert n v → LineFails a cert n w → v ≡ w
 one_reason a (Optimal point z lines) n v w x y = optimal_one a point z lines n v w x y
 one_reason a (Infeasible lines) n v w x y = no_goods_one a None lines 3 n v w x y
 one_reason a (Unbounded piece point ray) n v w x y = unbounded_one a piece point ray n v w x y

@@ -6,6 +6,7 @@ use Rattle.std.proofs.lemmas.List.FromFn.{length-map-range_with_len}
 use Rattle.lp_base.specs.Sums.{dot}
 use Rattle.lp_nums.specs.Fractions.{Fraction, SameValue}
 use Rattle.nogoods.specs.declared.choice.Choice.{Choice}
+use Rattle.sense.specs.Senses.{signed}
 use Rattle.lpcc_case.specs.declared.verdict.Verdict.{Verdict}
 use Rattle.lpcc_case.specs.declared.verdict.Verdict.TheVariants as verdict
 use Rattle.lpcc_case.specs.Instance.{Instance, chosen}
@@ -30,7 +31,7 @@ Passes a value lines first = (n : ℕ) (why : NoWhy) → NoGoodsFail a value lin
 
 -- ---- the optimum
 
-value_moves : (a : Instance) (p : Point a.columns) (z d : ℤ) (value : Fraction) (denominator : ℕ) → cost_at a p ≡ z → pos p.d ≡ d → pos denominator ≡ value.den → SameValue value (record { num = z +ℤ (a.offset *ℤ d); den = a.scale *ℤ d }) → HasValue a p value.num denominator
+value_moves : (a : Instance) (p : Point a.columns) (z d : ℤ) (value : Fraction) (denominator : ℕ) → cost_at a p ≡ z → pos p.d ≡ d → pos denominator ≡ value.den → SameValue value (record { num = signed a.sense (z +ℤ (a.offset *ℤ d)); den = a.scale *ℤ d }) → HasValue a p value.num denominator
 value_moves a p z d value denominator cost same den is = rw (cost, same, den) (sym is)
 
 pub optimal_true : (a : Instance) (point : CertPoint) (z : ℤ) (lines : List CertLine) (value : Fraction) → PointLinePasses a (IsComplementary a) point → Holds (HasCost a point z) → Passes a (Some (z, point.d)) lines 5 → IsValue a z point.d value → IsTrueOf a (verdict.Optimal value)

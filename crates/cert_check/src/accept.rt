@@ -37,6 +37,10 @@ pub enum NoWhy {
     HintFails,
     /// The last no-good has choices, or there is none.
     NotEmptyAtEnd,
+    /// A cut names a list that is not there. Lists are of form 2.
+    ListFails,
+    /// A line drops what is no earlier no-good line, or is dropped already. Such lines are of form 2.
+    DropFails,
 }
 
 impl NoWhy {
@@ -54,6 +58,8 @@ impl NoWhy {
             NoWhy::BoundLow => "BoundLow",
             NoWhy::HintFails => "HintFails",
             NoWhy::NotEmptyAtEnd => "NotEmptyAtEnd",
+            NoWhy::ListFails => "ListFails",
+            NoWhy::DropFails => "DropFails",
         }
     }
 }
@@ -130,7 +136,7 @@ fn judge_infeasible(case: &Case, lines: &[CertLine]) -> Result<Verdict, CheckFau
 }
 
 /// Judges a certificate that the cost falls without end.
-fn judge_unbounded(
+pub fn judge_unbounded(
     alloc: Global,
     case: &Case,
     piece: &NoGood,

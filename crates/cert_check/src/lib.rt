@@ -1,11 +1,12 @@
-//! Acceptance of certificates, and why an accepted one shows its verdict.
+//! Acceptance of certificates, and why an accepted one shows its verdict. The tests of single lines
+//! serve other forms too.
 #![tactic(auto)]
 
-mod accept;
+pub mod accept;
 mod laws;
-mod line;
+pub mod line;
 mod lines;
-mod point_line;
+pub mod point_line;
 
 pub use accept::{CheckFault, NoWhy, check};
 pub use laws::{

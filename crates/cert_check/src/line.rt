@@ -63,7 +63,7 @@ fn is_bound_for(value: (i128, i64), v: i128, e: i64) -> bool
 }
 
 /// Why a point cut fails over a value `z / d` that is claimed or none.
-fn point_cut_fault(
+pub fn point_cut_fault(
     case: &Case,
     value: Option<(i128, i64)>,
     ng: &NoGood,

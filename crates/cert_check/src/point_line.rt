@@ -35,7 +35,7 @@ fn numbers_of(alloc: Global, case: &Case, terms: &[(u32, i64)]) -> Result<Sequen
 }
 
 /// The point of the line with this `z`, where the terms name columns and all constraints are met.
-pub(crate) fn met_point(
+pub fn met_point(
     alloc: Global,
     case: &Case,
     line: &CertPoint,
@@ -58,7 +58,7 @@ pub(crate) fn met_point(
 }
 
 /// Whether the point's `z` is the sum of the costs times its numbers.
-pub(crate) fn has_cost(case: &Case, point: &Point) -> bool
+pub fn has_cost(case: &Case, point: &Point) -> bool
     requires { IsPointFor case.now point.now }
     ensures { IsTrue result ↔ (point.now.z ≡ dot case.now.cost point.now.x) }
 {

@@ -51,7 +51,7 @@ entry_takes n l o e = elim (either (is_last l) (end_at n (words l) >>= λ k. Ok 
       subst (Entry n l) {x = Some a.0} (same_ok (Some a.0) o a.2) (more.0, t.0, t.1)
 ]
 
-at_ok : {X : Type 0} (n : ℕ) (r : Reading X) (x : X) → at n r ≡ Ok x → r ≡ Ok x
+pub at_ok : {X : Type 0} (n : ℕ) (r : Reading X) (x : X) → at n r ≡ Ok x → r ≡ Ok x
 at_ok n (Ok y) x e = ap (λ z. Ok z) (same_ok y x e)
 at_ok n (Err why) x e = absurd cc
 
@@ -130,7 +130,7 @@ log_taken left y e =
 -- ---- what is read is spelled so
 
 -- a line that f reads is the line of these words
-spelled_line : {X : Type 0} (f : List Word → Reading X) (left : Left) (x : X) (next : Left) (ws : List Word) → (s : Stepped (λ l. f (words l)) left x next) → words s.line ≡ ws
+pub spelled_line : {X : Type 0} (f : List Word → Reading X) (left : Left) (x : X) (next : Left) (ws : List Word) → (s : Stepped (λ l. f (words l)) left x next) → words s.line ≡ ws
     → (left.lines ≡ line_bytes ws ∷ next.lines) × (next.cut ≡ left.cut)
 spelled_line f left x next ws s e = (s.lines ∙ ap (λ (l : List ℕ). l ∷ next.lines) (line_of_words s.line ws e), ap (λ (k : Left). k.cut) s.next_is)
 
@@ -324,7 +324,7 @@ tail_again t (Unbounded ng p ray) h few = (
       (line_as_again (end_at 0) (t + 1 + 1 + 1) _ _ [] 0 (plain_end 0) (end_again 0 few)),
 )
 
-kind_again : (k : Kind) → kind_at (kind_line k) ≡ Ok k
+pub kind_again : (k : Kind) → kind_at (kind_line k) ≡ Ok k
 unfolding kind_at
 kind_again kinds.Optimal = refl
 kind_again kinds.Infeasible = refl
@@ -353,7 +353,7 @@ spelled_is_read text c h =
 
 -- ---- the spelling spells
 
-among : (ls : List (List ℕ)) → All (λ l. is_comment l ≡ false) ls → (lines_among (ls ++ [] ∷ []) ≡ ls) × (tail_among (ls ++ [] ∷ []) ≡ [])
+pub among : (ls : List (List ℕ)) → All (λ l. is_comment l ≡ false) ls → (lines_among (ls ++ [] ∷ []) ≡ ls) × (tail_among (ls ++ [] ∷ []) ≡ [])
 among [] h = (refl, refl)
 among (l ∷ []) h = (ap (λ (t : Bool). cond t [] (l ∷ [])) (All-head (λ x. is_comment x ≡ false) l [] h), refl)
 among (l ∷ k ∷ ls) h =

@@ -7,12 +7,14 @@ use Rattle.cert_text.specs.declared.fault.CertWhy.{CertWhy}
 use Rattle.cert_text.specs.declared.fault.CertFault.{CertFault}
 use Rattle.cert_text.specs.declared.fault.CertFault.TheVariants.{NoMemory, At}
 use Rattle.cert_text.specs.Lines.{content, is_cut}
+use Rattle.cert_text.specs.Faults.{fault_of}
 use Rattle.cert_text.specs.Steps.{Finds, all_lines, cert_at}
 use Rattle.cert_text.specs.Texts.{Spells, Fails, FailsAs, found_by}
 use Rattle.cert_text.proofs.Results.{same_ok, same_err, apart}
 use Rattle.cert_text.proofs.Relations.{first_fault, fault_found, found_fails, same_fault}
 use Rattle.cert_text.proofs.Certificates.{read_is_spelled, spelled_is_read}
-use Rattle.cert_text.proofs.Frames.{Wholly, cert_wholly}
+use Rattle.cert_text.proofs.Judging.{Wholly}
+use Rattle.cert_text.proofs.Frames.{cert_wholly}
 
 abbrev Answer : Type 0
 Answer = Result Cert (ℕ × CertWhy)
@@ -27,7 +29,7 @@ abbrev is_refused : ℕ × CertWhy → Answer
 is_refused x = Err x
 
 abbrev found : List ℕ → Option (ℕ × CertWhy)
-found text = first_fault (is_cut text) [] (content text)
+found text = first_fault fault_of (is_cut text) [] (content text)
 
 wholly : (text : List ℕ) (r : Answer) → answer text ≡ r → Wholly (found text) r
 wholly text r e = subst (λ (a : Answer). Wholly (found text) a) e (cert_wholly (all_lines text) refl)
@@ -42,10 +44,10 @@ fault_of_answer text n w (Err x) f h = let s = same_fault x.0 n x.1 w (sym h ∙
 
 -- a first fault is answered
 failed_is_refused : (text : List ℕ) (n : ℕ) (w : CertWhy) → Fails text n w → answer text ≡ is_refused (n, w)
-failed_is_refused text n w f = fault_of_answer text n w (answer text) (fault_found text n w f) (wholly text (answer text) refl)
+failed_is_refused text n w f = fault_of_answer text n w (answer text) (fault_found fault_of text n w f) (wholly text (answer text) refl)
 
 refused_fails : (text : List ℕ) (n : ℕ) (w : CertWhy) → answer text ≡ is_refused (n, w) → Fails text n w
-refused_fails text n w e = found_fails text n w (wholly text (is_refused (n, w)) e)
+refused_fails text n w e = found_fails fault_of text n w (wholly text (is_refused (n, w)) e)
 
 -- ---- the clauses of the reader
 
@@ -77,7 +79,7 @@ pub one_certificate : (text : List ℕ) (one other : Cert) → Spells text one �
 one_certificate text one other h k = same_ok one other (sym (spelled_is_read text one h) ∙ spelled_is_read text other k)
 
 pub one_fault : (text : List ℕ) (m n : ℕ) (one other : CertWhy) → Fails text m one → Fails text n other → (m ≡ n) × (one ≡ other)
-one_fault text m n one other f g = same_fault m n one other (sym (fault_found text m one f) ∙ fault_found text n other g)
+one_fault text m n one other f g = same_fault m n one other (sym (fault_found fault_of text m one f) ∙ fault_found fault_of text n other g)
 
 pub not_both : (text : List ℕ) (c : Cert) (line : ℕ) (why : CertWhy) → Spells text c → Fails text line why → ⊥
 not_both text c line why s f = apart c (line, why) (sym (spelled_is_read text c s) ∙ failed_is_refused text line why f)

@@ -25,11 +25,11 @@ after_takes wanted (w ∷ ws) rest e =
     let g = by_test (bytes_eq w wanted) ws BadLine rest e in
     ap (λ (x : Word). x ∷ ws) ((bytes_eq-Decides w wanted).0 g.0) ∙ ap (λ (x : List Word). wanted ∷ x) g.1
 
-after_again : (wanted : Word) (rest : List Word) → after wanted (wanted ∷ rest) ≡ Ok rest
+pub after_again : (wanted : Word) (rest : List Word) → after wanted (wanted ∷ rest) ≡ Ok rest
 unfolding after
 after_again wanted rest = ap (λ (t : Bool). cond t (Ok rest) (Err BadLine)) ((bytes_eq-Decides wanted wanted).1 refl)
 
-first_takes : (ws : List Word) (x : Word × List Word) → first_at ws ≡ Ok x → ws ≡ x.0 ∷ x.1
+pub first_takes : (ws : List Word) (x : Word × List Word) → first_at ws ≡ Ok x → ws ≡ x.0 ∷ x.1
 unfolding first_at
 first_takes [] x e = absurd cc
 first_takes (w ∷ ws) x e = ap (λ (y : Word × List Word). y.0 ∷ y.1) (same_ok (w, ws) x e)
@@ -39,7 +39,7 @@ unfolding ended
 ended_takes [] rest e = refl
 ended_takes (w ∷ ws) rest e = absurd cc
 
-bound_takes : (ws : List Word) (x : ℤ × List Word) → bound_at ws ≡ Ok x → (ws ≡ signed_decimal x.0 ∷ colon ∷ x.1) × (pos 1 ≤ℤ x.0) × IsNarrow x.0
+pub bound_takes : (ws : List Word) (x : ℤ × List Word) → bound_at ws ≡ Ok x → (ws ≡ signed_decimal x.0 ∷ colon ∷ x.1) × (pos 1 ≤ℤ x.0) × IsNarrow x.0
 unfolding bound_at
 bound_takes [] x e = absurd cc
 bound_takes (w ∷ ws) x e =
@@ -50,7 +50,7 @@ bound_takes (w ∷ ws) x e =
     subst (λ (y : ℤ × List Word). (w ∷ ws ≡ signed_decimal y.0 ∷ colon ∷ y.1) × (pos 1 ≤ℤ y.0) × IsNarrow y.0) {x = made} (same_ok made x b.2)
     (ap (λ (v : Word). v ∷ ws) (sym p.0) ∙ ap (λ (t : List Word). signed_decimal a.0 ∷ t) (after_takes colon ws b.0 b.1), p.1, p.2)
 
-bound_again : (e : ℤ) (rest : List Word) → pos 1 ≤ℤ e → IsNarrow e → bound_at (signed_decimal e ∷ colon ∷ rest) ≡ Ok (e, rest)
+pub bound_again : (e : ℤ) (rest : List Word) → pos 1 ≤ℤ e → IsNarrow e → bound_at (signed_decimal e ∷ colon ∷ rest) ≡ Ok (e, rest)
 unfolding bound_at
 bound_again e rest low narrow =
     ap (λ (r : Reading ℤ). r >>= λ n. after colon (colon ∷ rest) >>= λ behind. Ok (n, behind)) (positive_int_again e low narrow)
@@ -124,7 +124,7 @@ ray_again ts h =
 
 -- ---- no-good lines
 
-front : (kind : Word) (ws : List Word) (ng : List Choice) (rest behind : List Word) → ws ≡ map choice_word ng ++ colon ∷ rest → rest ≡ behind → kind ∷ ws ≡ kind ∷ map choice_word ng ++ colon ∷ behind
+pub front : (kind : Word) (ws : List Word) (ng : List Choice) (rest behind : List Word) → ws ≡ map choice_word ng ++ colon ∷ rest → rest ≡ behind → kind ∷ ws ≡ kind ∷ map choice_word ng ++ colon ∷ behind
 front kind ws ng rest behind e f = ap (λ (t : List Word). kind ∷ t) (e ∙ ap (λ (t : List Word). map choice_word ng ++ colon ∷ t) f)
 
 abbrev Spelled : Word → List Word → CertLine → Type 0

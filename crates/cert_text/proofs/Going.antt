@@ -15,7 +15,7 @@ onto front r = r >>= λ xs. Ok (front ++ xs)
 abbrev pub onto_first : {X Y E : Type 0} → List X → Result (List X × Y) E → Result (List X × Y) E
 onto_first front r = r >>= λ found. Ok (front ++ found.0, found.1)
 
-onto_push : {X E : Type 0} (front : List X) (x : X) (r : Result (List X) E) → onto (front ++ x ∷ []) r ≡ onto front (r >>= λ xs. Ok (x ∷ xs))
+pub onto_push : {X E : Type 0} (front : List X) (x : X) (r : Result (List X) E) → onto (front ++ x ∷ []) r ≡ onto front (r >>= λ xs. Ok (x ∷ xs))
 onto_push front x (Ok xs) = ap (λ ys. Ok ys) (append_assoc front (x ∷ []) xs)
 onto_push front x (Err e) = refl
 

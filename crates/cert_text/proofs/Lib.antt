@@ -13,5 +13,6 @@ pub mod Joined
 pub mod Stepping
 pub mod Plain
 pub mod Certificates
+pub mod Judging
 pub mod Frames
 pub mod Clauses

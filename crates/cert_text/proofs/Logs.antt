@@ -58,7 +58,7 @@ log_goes_on before n left behind entry x now all k e some m so_far =
     ∙ onto_first_push before x (log_step (length before + 1) behind)
     ∙ sym (log_at before n left (Ok (Some x, behind)) all k (e ∙ ap (λ (y : Option CertLine). Ok (y, behind)) some) so_far)
 
-first_shorter : (left : Left) (ls : List (List ℕ)) (x : List ℕ × Left) → first_of left ls ≡ Ok x → length x.1.lines < length ls
+pub first_shorter : (left : Left) (ls : List (List ℕ)) (x : List ℕ × Left) → first_of left ls ≡ Ok x → length x.1.lines < length ls
 first_shorter left [] x e = absurd cc
 first_shorter left (l ∷ ls) x e = subst (λ (y : List ℕ × Left). length y.1.lines < length (l ∷ ls)) {x = (l, behind left ls)} (same_ok (l, behind left ls) x e) (omega arith)
 

@@ -17,7 +17,7 @@ use Rattle.cert_text.specs.Spelling.{Word, side_letter, choice_word, term_words,
 use Rattle.cert_text.specs.Lines.{is_comment}
 use Rattle.cert_text.proofs.Numbers.{IsPlain, plain_decimal, plain_signed}
 
-plain_by_test : (w : Word) → list_all (λ b. ltb 32 b) w ≡ true → IsPlain w
+pub plain_by_test : (w : Word) → list_all (λ b. ltb 32 b) w ≡ true → IsPlain w
 plain_by_test [] e = All-nil (λ b. 32 < b)
 plain_by_test (b ∷ w) e = let p = and_parts (ltb 32 b) (list_all (λ c. ltb 32 c) w) e in All-cons (λ c. 32 < c) b w (ltb-true 32 b p.0) (plain_by_test w p.1)
 
@@ -31,19 +31,19 @@ plain_choice c = All-append (λ b. 32 < b) (decimal (c.pair + 1)) (side_letter c
 plain_choices : (cs : List Choice) → All IsPlain (map choice_word cs)
 plain_choices cs = All-map IsPlain choice_word cs (λ i d lt. plain_choice (get_or cs i d))
 
-plain_terms : (ts : List (ℕ × ℤ)) → All IsPlain (flat_map term_words ts)
+pub plain_terms : (ts : List (ℕ × ℤ)) → All IsPlain (flat_map term_words ts)
 plain_terms [] = All-nil IsPlain
 plain_terms (t ∷ ts) =
     All-cons IsPlain (decimal (t.0 + 1)) (signed_decimal t.1 ∷ flat_map term_words ts) (plain_decimal (t.0 + 1))
     (All-cons IsPlain (signed_decimal t.1) (flat_map term_words ts) (plain_signed t.1) (plain_terms ts))
 
-plain_colon : (ws : List Word) → All IsPlain ws → All IsPlain (colon ∷ ws)
+pub plain_colon : (ws : List Word) → All IsPlain ws → All IsPlain (colon ∷ ws)
 plain_colon ws h = All-cons IsPlain colon ws (plain_by_test colon refl) h
 
 plain_bound : (z : ℤ) (ts : List (ℕ × ℤ)) → All IsPlain (signed_decimal z ∷ colon ∷ flat_map term_words ts)
 plain_bound z ts = All-cons IsPlain (signed_decimal z) (colon ∷ flat_map term_words ts) (plain_signed z) (plain_colon (flat_map term_words ts) (plain_terms ts))
 
-plain_front : (kind : Word) (ng : List Choice) (ws : List Word) → IsPlain kind → All IsPlain ws → All IsPlain (kind ∷ map choice_word ng ++ colon ∷ ws)
+pub plain_front : (kind : Word) (ng : List Choice) (ws : List Word) → IsPlain kind → All IsPlain ws → All IsPlain (kind ∷ map choice_word ng ++ colon ∷ ws)
 plain_front kind ng ws k h = All-cons IsPlain kind (map choice_word ng ++ colon ∷ ws) k (All-append IsPlain (map choice_word ng) (colon ∷ ws) (plain_choices ng) (plain_colon ws h))
 
 abbrev pub ArePlain : List Word → Type 0
@@ -69,7 +69,7 @@ plain_piece cs = All-cons IsPlain (codes "piece") (map choice_word cs) (plain_by
 pub plain_ray : (ts : List (ℕ × ℤ)) → ArePlain (ray_words ts)
 plain_ray ts = All-cons IsPlain (codes "ray") (colon ∷ flat_map term_words ts) (plain_by_test (codes "ray") refl) (plain_colon (flat_map term_words ts) (plain_terms ts))
 
-plain_one : (w : Word) → IsPlain w → ArePlain (w ∷ [])
+pub plain_one : (w : Word) → IsPlain w → ArePlain (w ∷ [])
 plain_one w h = All-cons IsPlain w [] h (All-nil IsPlain)
 
 plain_head : ArePlain head_words
@@ -77,7 +77,7 @@ plain_head = All-cons IsPlain (codes "lpcc-certificate") (codes "1" ∷ []) (pla
 
 -- ---- lines
 
-begins : (b : ℕ) (w : Word) (ws : List Word) → is_comment (line_bytes ((b ∷ w) ∷ ws)) ≡ eqb b 42
+pub begins : (b : ℕ) (w : Word) (ws : List Word) → is_comment (line_bytes ((b ∷ w) ∷ ws)) ≡ eqb b 42
 begins b w [] = refl
 begins b w (v ∷ ws) = refl
 
@@ -98,7 +98,7 @@ good_log xs =
 good_front : (kind : Word) (ls : List (List Word)) → IsGood (kind ∷ []) → All IsGood ls → All IsGood (head_words ∷ (kind ∷ []) ∷ ls)
 good_front kind ls k h = All-cons IsGood head_words ((kind ∷ []) ∷ ls) (plain_head, refl) (All-cons IsGood (kind ∷ []) ls k h)
 
-good_point : (p : CertPoint) → IsGood (point_words p)
+pub good_point : (p : CertPoint) → IsGood (point_words p)
 good_point p = (plain_point p, begins 112 (codes "oint") (signed_decimal p.d ∷ colon ∷ flat_map term_words p.terms))
 
 pub good_cert : (c : Cert) → All IsGood (cert_words c)

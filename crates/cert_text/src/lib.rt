@@ -1,16 +1,16 @@
 //! The text of a certificate, form 1: its one spelling, and reading it exactly, with the first fault
-//! of a text that is none.
+//! of a text that is none. The readers of lines and words serve other forms too.
 #![tactic(auto)]
 
 mod cert;
 mod fault;
 mod laws;
-mod lines;
-mod lists;
-mod read;
-mod rows;
-mod split;
-mod words;
+pub mod lines;
+pub mod lists;
+pub mod read;
+pub mod rows;
+pub mod split;
+pub mod words;
 
 pub use cert::{Cert, CertLine, CertPoint};
 pub use fault::{CertFault, CertWhy};

@@ -53,47 +53,53 @@ fn parse_kind(line: &[u8]) -> Result<Kind, Fault>
     Err(Fault::Of(CertWhy::BadLine))
 }
 
+/// The kind, on the line that comes next.
 #[tactic(auto, unfolding(crate::specs::Steps::kind_step))]
-fn parse_kind_line(lines: &mut Lines) -> Result<Kind, CertFault>
+pub fn parse_kind_line(lines: &mut Lines) -> Result<Kind, CertFault>
     ensures { Finds (λ kind. (kind, lines.new)) result (kind_step lines.old) }
 {
     let line = lines.whole()?;
     lines.judged(parse_kind(line))
 }
 
+/// A point, on the line that comes next.
 #[tactic(auto, unfolding(crate::specs::Steps::line_as))]
-fn parse_point_line(alloc: Global, lines: &mut Lines) -> Result<CertPoint, CertFault>
+pub fn parse_point_line(alloc: Global, lines: &mut Lines) -> Result<CertPoint, CertFault>
     ensures { Finds (λ point. (point, lines.new)) result (line_as point_at lines.old) }
 {
     let line = lines.whole()?;
     lines.judged(parse_point(alloc, &mut Split::of(line, b' ')))
 }
 
+/// A value, on the line that comes next.
 #[tactic(auto, unfolding(crate::specs::Steps::line_as))]
-fn parse_value_line(lines: &mut Lines) -> Result<i128, CertFault>
+pub fn parse_value_line(lines: &mut Lines) -> Result<i128, CertFault>
     ensures { Finds (λ z. (z, lines.new)) result (line_as value_at lines.old) }
 {
     let line = lines.whole()?;
     lines.judged(parse_value(&mut Split::of(line, b' ')))
 }
 
+/// A piece, on the line that comes next.
 #[tactic(auto, unfolding(crate::specs::Steps::line_as))]
-fn parse_piece_line(alloc: Global, lines: &mut Lines) -> Result<NoGood, CertFault>
+pub fn parse_piece_line(alloc: Global, lines: &mut Lines) -> Result<NoGood, CertFault>
     ensures { Finds (λ piece. (piece, lines.new)) result (line_as piece_at lines.old) }
 {
     let line = lines.whole()?;
     lines.judged(parse_piece(alloc, &mut Split::of(line, b' ')))
 }
 
+/// A ray, on the line that comes next.
 #[tactic(auto, unfolding(crate::specs::Steps::line_as))]
-fn parse_ray_line(alloc: Global, lines: &mut Lines) -> Result<Sequence<(u32, i64)>, CertFault>
+pub fn parse_ray_line(alloc: Global, lines: &mut Lines) -> Result<Sequence<(u32, i64)>, CertFault>
     ensures { Finds (λ ray. (ray, lines.new)) result (line_as ray_at lines.old) }
 {
     let line = lines.whole()?;
     lines.judged(parse_ray(alloc, &mut Split::of(line, b' ')))
 }
 
-fn is_last(line: &[u8]) -> bool
+/// Whether a line is the last one, by its first word.
+pub fn is_last(line: &[u8]) -> bool
     ensures { result ≡ is_last line.now }
 {
     match Split::of(line, b' ').next() {
@@ -137,8 +143,9 @@ fn parse_log(alloc: Global, lines: &mut Lines) -> Result<Sequence<CertLine>, Cer
     Ok(log)
 }
 
+/// The last line, which counts no no-good lines.
 #[tactic(auto, unfolding(crate::specs::Steps::last_step, crate::specs::Steps::line_as))]
-fn parse_last_line(lines: &mut Lines) -> Result<u64, CertFault>
+pub fn parse_last_line(lines: &mut Lines) -> Result<u64, CertFault>
     ensures { Finds (λ k. (k, lines.new)) result (last_step lines.old) }
 {
     let line = lines.whole()?;
@@ -188,9 +195,9 @@ fn parse_cert_of_kind(alloc: Global, kind: Kind, lines: &mut Lines) -> Result<Ce
     }
 }
 
-// No content stands behind the last line.
+/// No content stands behind the last line.
 #[tactic(auto, unfolding(crate::specs::Steps::behind_end))]
-fn parse_text_end(lines: &mut Lines) -> Result<(), CertFault>
+pub fn parse_text_end(lines: &mut Lines) -> Result<(), CertFault>
     ensures { Finds (λ _. lines.old) result (behind_end lines.old) }
 {
     let line = lines.next_number();

@@ -13,9 +13,9 @@ use lp_base::Sequence;
 use nogoods::NoGood;
 use std::alloc::Global;
 
-// A positive number, with the colon behind it.
+/// A positive number, with the colon behind it.
 #[tactic(auto, unfolding(crate::specs::Reading::bound_at, crate::specs::Reading::first_at))]
-fn parse_bound(words: &mut Split) -> Result<i64, Fault>
+pub fn parse_bound(words: &mut Split) -> Result<i64, Fault>
     ensures { Reads (λ e. (e, words.new)) result (bound_at words.old) }
 {
     let bound = parse_positive(parse_first(words)?)?;

@@ -1,5 +1,5 @@
 //! A text cut at each separator, part by part.
-ghost use Rattle.std.specs.Prelude.{◌≡◌, ◌==◌, ◌<◌, ◌∷◌, [], IfSome, MatchOption, length, position};
+ghost use Rattle.std.specs.Prelude.{◌≡◌, ◌==◌, ◌<◌, ◌∷◌, [], IfSome, MatchOption, Some, length, position, slice_get};
 ghost use Rattle.cert_text.specs.Splits.{split};
 
 use std::marker::Model;
@@ -36,6 +36,20 @@ impl<'a> Split<'a> {
         Split {
             rest: Some(text),
             separator,
+        }
+    }
+
+    /// The first of the parts that are left, which is not taken.
+    pub fn first(&self) -> Option<&'a [u8]>
+        ensures { MatchOption result (self.now ≡ []) (λ part. slice_get self.now 0 ≡ Some part.now) }
+    {
+        let rest = self.rest?;
+        match place_of(self.separator, rest) {
+            Some(at) => {
+                let (part, _) = rest.split_at(at);
+                Some(part)
+            }
+            None => Some(rest),
         }
     }
 

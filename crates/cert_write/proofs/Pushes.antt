@@ -137,13 +137,13 @@ pub kind_is : (kind : Word) → (codes "lpcc-certificate 1\n" ++ kind) ++ 10 ∷
 unfolding text_lines
 kind_is kind = ap (λ (t : List ℕ). codes "lpcc-certificate 1\n" ++ t) (sym (append-nil (kind ++ 10 ∷ [])))
 
-lines_append : (a b : List (List Word)) → text_lines (a ++ b) ≡ text_lines a ++ text_lines b
+pub lines_append : (a b : List (List Word)) → text_lines (a ++ b) ≡ text_lines a ++ text_lines b
 lines_append [] b = ap (λ (t : List ℕ). t ++ text_lines b) (sym lines_nil)
 lines_append (l ∷ a) b =
     lines_more l (a ++ b) ∙ ap (λ (t : List ℕ). text_line l ++ t) (lines_append a b) ∙ sym (append_assoc (text_line l) (text_lines a) (text_lines b))
     ∙ ap (λ (t : List ℕ). t ++ text_lines b) (sym (lines_more l a))
 
-lines_push : (a : List (List Word)) (l : List Word) → text_lines a ++ text_line l ≡ text_lines (a ++ l ∷ [])
+pub lines_push : (a : List (List Word)) (l : List Word) → text_lines a ++ text_line l ≡ text_lines (a ++ l ∷ [])
 lines_push a l = sym (lines_append a (l ∷ []) ∙ ap (λ (t : List ℕ). text_lines a ++ t) (lines_more l [] ∙ ap (λ (t : List ℕ). text_line l ++ t) lines_nil ∙ append-nil (text_line l)))
 
 pub log_is : (xs : List CertLine) → log_text xs ++ text_line (codes "end" ∷ decimal (length xs) ∷ []) ≡ text_lines (log_words xs)

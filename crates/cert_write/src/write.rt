@@ -12,13 +12,15 @@ use itoa::{Buffer, Integer};
 use nogoods::{Choice, NoGood, Side};
 use std::alloc::{AllocError, Global};
 
-fn push_bytes(out: &mut Vec<u8>, bytes: &[u8]) -> Result<(), AllocError>
+/// Bytes as they are.
+pub fn push_bytes(out: &mut Vec<u8>, bytes: &[u8]) -> Result<(), AllocError>
     ensures { OnOk result (out.new.items ≡ out.old.items ++ bytes.now) }
 {
     out.extend_from_slice(bytes)
 }
 
-fn push_number<I: Integer>(out: &mut Vec<u8>, number: I) -> Result<(), AllocError>
+/// A number, in decimal.
+pub fn push_number<I: Integer>(out: &mut Vec<u8>, number: I) -> Result<(), AllocError>
     ensures { OnOk result (out.new.items ≡ out.old.items ++ I.text number) }
 {
     out.extend_from_slice(Buffer::new().format(number).as_bytes())
@@ -72,7 +74,8 @@ fn push_hint(out: &mut Vec<u8>, hint: u64) -> Result<(), AllocError>
     push_number(out, u128::from(hint) + 1)
 }
 
-fn push_hints(out: &mut Vec<u8>, hints: &[u64]) -> Result<(), AllocError>
+/// Numbers of lines, with a space in front of each.
+pub fn push_hints(out: &mut Vec<u8>, hints: &[u64]) -> Result<(), AllocError>
     ensures { OnOk result (out.new.items ≡ out.old.items ++ spaced (map hint_word hints.now)) }
 {
     for hint in hints {
@@ -83,8 +86,8 @@ fn push_hints(out: &mut Vec<u8>, hints: &[u64]) -> Result<(), AllocError>
 
 // ---- parts of lines
 
-// The first word, choices and a colon.
-fn push_front(out: &mut Vec<u8>, kind: &[u8], ng: &NoGood) -> Result<(), AllocError>
+/// The first word, choices and a colon.
+pub fn push_front(out: &mut Vec<u8>, kind: &[u8], ng: &NoGood) -> Result<(), AllocError>
     ensures { OnOk result (out.new.items ≡ out.old.items ++ (kind.now ++ spaced (map choice_word ng.now ++ colon ∷ []))) }
 {
     push_bytes(out, kind)?;
@@ -92,17 +95,17 @@ fn push_front(out: &mut Vec<u8>, kind: &[u8], ng: &NoGood) -> Result<(), AllocEr
     push_bytes(out, b" :")
 }
 
-// A number and a colon.
+/// A number and a colon.
 #[tactic(auto, unfolding(crate::specs::Writing::spaced))]
-fn push_bound(out: &mut Vec<u8>, bound: i64) -> Result<(), AllocError>
+pub fn push_bound(out: &mut Vec<u8>, bound: i64) -> Result<(), AllocError>
     ensures { OnOk result (out.new.items ≡ out.old.items ++ (signed_decimal bound ++ spaced (colon ∷ []))) }
 {
     push_number(out, bound)?;
     push_bytes(out, b" :")
 }
 
-// Terms up to the end of the line.
-fn push_last_terms(out: &mut Vec<u8>, terms: &[(u32, i64)]) -> Result<(), AllocError>
+/// Terms up to the end of the line.
+pub fn push_last_terms(out: &mut Vec<u8>, terms: &[(u32, i64)]) -> Result<(), AllocError>
     ensures { OnOk result (out.new.items ≡ out.old.items ++ (spaced (flat_map term_words terms.now) ++ 10 ∷ [])) }
 {
     push_terms(out, terms)?;
@@ -132,7 +135,8 @@ fn push_point_cut(
     push_last_terms(out, terms)
 }
 
-fn push_derived(out: &mut Vec<u8>, ng: &NoGood, hints: &[u64]) -> Result<(), AllocError>
+/// The line of a derived no-good.
+pub fn push_derived(out: &mut Vec<u8>, ng: &NoGood, hints: &[u64]) -> Result<(), AllocError>
     ensures { OnOk result (out.new.items ≡ out.old.items ++ text_line (line_words (Derived ng.now hints.now))) }
 {
     push_front(out, b"d", ng)?;
@@ -150,8 +154,9 @@ fn push_line(out: &mut Vec<u8>, line: &CertLine) -> Result<(), AllocError>
     }
 }
 
+/// The last line, with the number of no-good lines.
 #[tactic(auto, unfolding(crate::specs::Writing::text_line))]
-fn push_end(out: &mut Vec<u8>, lines: u64) -> Result<(), AllocError>
+pub fn push_end(out: &mut Vec<u8>, lines: u64) -> Result<(), AllocError>
     ensures { OnOk result (out.new.items ≡ out.old.items ++ text_line (codes "end" ∷ decimal lines ∷ [])) }
 {
     push_bytes(out, b"end ")?;
@@ -169,7 +174,8 @@ fn push_log(out: &mut Vec<u8>, lines: &[CertLine]) -> Result<(), AllocError>
     push_end(out, lines.len() as u64)
 }
 
-fn push_point(out: &mut Vec<u8>, point: &CertPoint) -> Result<(), AllocError>
+/// The line of a point.
+pub fn push_point(out: &mut Vec<u8>, point: &CertPoint) -> Result<(), AllocError>
     ensures { OnOk result (out.new.items ≡ out.old.items ++ text_line (point_words point.now)) }
 {
     push_bytes(out, b"point ")?;
@@ -177,8 +183,9 @@ fn push_point(out: &mut Vec<u8>, point: &CertPoint) -> Result<(), AllocError>
     push_last_terms(out, point.terms.as_slice())
 }
 
+/// The line of a point's value.
 #[tactic(auto, unfolding(crate::specs::Writing::text_line))]
-fn push_value(out: &mut Vec<u8>, z: i128) -> Result<(), AllocError>
+pub fn push_value(out: &mut Vec<u8>, z: i128) -> Result<(), AllocError>
     ensures { OnOk result (out.new.items ≡ out.old.items ++ text_line (value_words z)) }
 {
     push_bytes(out, b"value ")?;
@@ -186,7 +193,8 @@ fn push_value(out: &mut Vec<u8>, z: i128) -> Result<(), AllocError>
     push_bytes(out, b"\n")
 }
 
-fn push_piece(out: &mut Vec<u8>, piece: &NoGood) -> Result<(), AllocError>
+/// The line of a piece.
+pub fn push_piece(out: &mut Vec<u8>, piece: &NoGood) -> Result<(), AllocError>
     ensures { OnOk result (out.new.items ≡ out.old.items ++ text_line (piece_words piece.now)) }
 {
     push_bytes(out, b"piece")?;
@@ -194,7 +202,8 @@ fn push_piece(out: &mut Vec<u8>, piece: &NoGood) -> Result<(), AllocError>
     push_bytes(out, b"\n")
 }
 
-fn push_ray(out: &mut Vec<u8>, ray: &[(u32, i64)]) -> Result<(), AllocError>
+/// The line of a ray.
+pub fn push_ray(out: &mut Vec<u8>, ray: &[(u32, i64)]) -> Result<(), AllocError>
     ensures { OnOk result (out.new.items ≡ out.old.items ++ text_line (ray_words ray.now)) }
 {
     push_bytes(out, b"ray :")?;

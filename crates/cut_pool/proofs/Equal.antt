@@ -6,8 +6,8 @@ use Rattle.lpcc_case.specs.Instance.{Instance}
 pub same_parts : (a b : Constraint) → a.kind ≡ b.kind → a.rhs ≡ b.rhs → a.terms ≡ b.terms → a ≡ b
 same_parts a b k r t = λ i. record { kind = k i; terms = t i; rhs = r i }
 
-pub same_instance : (a b : Instance) → a.columns ≡ b.columns → a.cost ≡ b.cost → a.scale ≡ b.scale → a.offset ≡ b.offset → a.constraints ≡ b.constraints → a.pairs ≡ b.pairs → a ≡ b
-same_instance a b c k s o n p = λ i. record { columns = c i; cost = k i; scale = s i; offset = o i; constraints = n i; pairs = p i }
+pub same_instance : (a b : Instance) → a.columns ≡ b.columns → a.cost ≡ b.cost → a.scale ≡ b.scale → a.offset ≡ b.offset → a.sense ≡ b.sense → a.constraints ≡ b.constraints → a.pairs ≡ b.pairs → a ≡ b
+same_instance a b c k s o w n p = λ i. record { columns = c i; cost = k i; scale = s i; offset = o i; sense = w i; constraints = n i; pairs = p i }
 
 -- lists with equal heads are equal where their tails are
 pub same_list : {T : Type 0} (b : Bool) (x y : T) (xs ys : List T) → x ≡ y → (IsTrue b → xs ≡ ys) → IsTrue b → x ∷ xs ≡ y ∷ ys

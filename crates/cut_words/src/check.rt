@@ -7,8 +7,7 @@ ghost use Rattle.cut_words.specs.Words.{SpellsPassing};
 ghost use Rattle.cut_words.specs.Reading.{HasKind, cut_of};
 
 use crate::read::{Kind, read_parts};
-use crate::signs::has_signs;
-use crate::sums::{is_multiple_of_cost, right_sum};
+use cuts::{has_signs, is_multiple_of_cost, right_sum};
 use lpcc_case::{Case, MOST_CONSTRAINTS, MOST_PAIRS};
 use nogoods::Choice;
 

@@ -5,8 +5,6 @@ mod check;
 mod laws;
 mod put;
 mod read;
-mod signs;
-mod sums;
 
 pub use check::are_passing_words;
 pub use laws::words_are_of_one_cut;

@@ -11,8 +11,7 @@ ghost use Rattle.cut_words.specs.Reading.{elements, side_of, choice_of, multipli
 ghost use Rattle.cut_words.specs.declared.read.Kind.{Kind};
 
 use crate::put::{halves, word_of};
-use crate::sums::right_sum;
-use cuts::Cut;
+use cuts::{Cut, right_sum};
 use lp_base::Sequence;
 use lpcc_case::{Case, MOST_CONSTRAINTS, MOST_PAIRS};
 use nogoods::{Choice, NoGood, Side};

@@ -19,7 +19,7 @@ pub fn check_ray(case: &Case, ng: &NoGood, mult: &[(u32, i64)]) -> Result<(), Cu
     if !is_indexed(case, ng, mult) {
         return Err(CutFault::Index);
     }
-    if !has_signs(case, ng, mult) {
+    if !has_signs(case, ng.choices(), mult) {
         return Err(CutFault::Sign);
     }
     if !is_multiple_of_cost(case, mult, 0) {
@@ -41,7 +41,7 @@ pub fn point_bound(case: &Case, ng: &NoGood, mult: &[(u32, i64)], e: i64) -> Res
     if !is_indexed(case, ng, mult) {
         return Err(CutFault::Index);
     }
-    if !has_signs(case, ng, mult) {
+    if !has_signs(case, ng.choices(), mult) {
         return Err(CutFault::Sign);
     }
     if e < 1 || !is_multiple_of_cost(case, mult, e) {

@@ -1,6 +1,10 @@
 //! Cuts and what may be wrong with one.
+ghost use Rattle.std.specs.Prelude.{◌≡◌, IfOk};
+ghost use Rattle.cuts.specs.Cuts.{no_good_of};
+
 use lp_base::Sequence;
 use nogoods::NoGood;
+use std::alloc::{AllocError, Global};
 use thiserror::Error;
 
 /// A no-good with its reason, multipliers on constraints whose numbers, counted from 0, ascend.
@@ -19,6 +23,35 @@ pub enum Cut {
         e: i64,
         v: i128,
     },
+}
+
+impl Cut {
+    /// The no-good.
+    pub fn no_good(&self) -> &NoGood
+        ensures { result.now ≡ no_good_of self.now }
+    {
+        match self {
+            Cut::Ray { ng, .. } | Cut::Point { ng, .. } => ng,
+        }
+    }
+
+    /// An equal cut.
+    pub fn copy(&self, alloc: Global) -> Result<Cut, AllocError>
+        ensures { IfOk result (λ made. made ≡ self.now) }
+    {
+        match self {
+            Cut::Ray { ng, mult } => Ok(Cut::Ray {
+                ng: ng.copy(alloc)?,
+                mult: mult.copy(alloc)?,
+            }),
+            Cut::Point { ng, mult, e, v } => Ok(Cut::Point {
+                ng: ng.copy(alloc)?,
+                mult: mult.copy(alloc)?,
+                e: *e,
+                v: *v,
+            }),
+        }
+    }
 }
 
 /// What the test of a cut finds first.

@@ -5,7 +5,7 @@ ghost use Rattle.lpcc_case.specs.Pieces.{NamesPairs};
 ghost use Rattle.cuts.specs.Cuts.{HasSigns, IsIndexed};
 
 use lpcc_case::{Case, Constraint, Kind, MOST_CONSTRAINTS};
-use nogoods::{Choice, NoGood};
+use nogoods::Choice;
 
 /// Marks the constraint of each choice.
 fn mark_chosen(case: &Case, choices: &[Choice], marks: &mut [bool])
@@ -31,14 +31,15 @@ fn needs_choice(constraints: &[Constraint], multiplier: (u32, i64)) -> bool
     y < 0 && constraints[number as usize].kind == Kind::Ge
 }
 
-/// Whether each negative multiplier stands on an equation or on a chosen constraint.
-pub fn has_signs(case: &Case, ng: &NoGood, mult: &[(u32, i64)]) -> bool
-    requires { IsIndexed case.now ng.now mult.now }
-    ensures { IsTrue result ↔ HasSigns case.now ng.now mult.now }
+/// Whether each negative multiplier stands on an equation, or on the constraint of one of the
+/// choices. It takes no memory.
+pub fn has_signs(case: &Case, choices: &[Choice], mult: &[(u32, i64)]) -> bool
+    requires { IsIndexed case.now choices.now mult.now }
+    ensures { IsTrue result ↔ HasSigns case.now choices.now mult.now }
 {
     let constraints = case.constraints();
     let mut marks = [false; MOST_CONSTRAINTS];
-    mark_chosen(case, ng.choices(), &mut marks);
+    mark_chosen(case, choices, &mut marks);
     for multiplier in mult {
         if needs_choice(constraints, *multiplier) && !marks[multiplier.0 as usize] {
             return false;

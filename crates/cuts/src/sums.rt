@@ -39,7 +39,8 @@ fn add_constraints(case: &Case, mult: &[(u32, i64)], sums: &mut [i128])
     }
 }
 
-/// Whether the multipliers times the coefficients are `e` times the cost, in each column.
+/// Whether the multipliers times the coefficients are `e` times the cost, in each column. It takes no
+/// memory.
 pub fn is_multiple_of_cost(case: &Case, mult: &[(u32, i64)], e: i64) -> bool
     requires multipliers { AreMultipliers case.now mult.now }
     requires narrow { IsNarrow e }
@@ -57,7 +58,7 @@ pub fn is_multiple_of_cost(case: &Case, mult: &[(u32, i64)], e: i64) -> bool
     true
 }
 
-/// The multipliers times the right sides.
+/// The sum of the right sides, each times its multiplier.
 pub fn right_sum(case: &Case, mult: &[(u32, i64)]) -> i128
     requires { AreMultipliers case.now mult.now }
     ensures { result ≡ right_sum case.now mult.now }

@@ -138,7 +138,6 @@ impl<N: Number> Simplex<N> {
             limit: None,
             held: Vec::new(alloc),
             overflowed: false,
-            pivots: 0,
         })
     }
 

@@ -4,8 +4,8 @@ use simplex_numbers::Number;
 use simplex_rows::{Bound, Limit, Pattern, Row, Scale, Variable, variable_at};
 use std::alloc::AllocError;
 
-/// A standing dictionary of a case in numbers of one width, with the constraints that are held with equality and the limit
-/// on the cost.
+/// A standing dictionary of a case in numbers of one width, with the constraints that are held with
+/// equality and the limit on the cost.
 #[derive(Drop)]
 pub struct Simplex<N: Number> {
     pub(crate) rows: Vec<Row<N>>,
@@ -33,7 +33,6 @@ pub struct Simplex<N: Number> {
     pub(crate) held: Vec<u32>,
     /// A number did not fit, and the dictionary is to be made anew.
     pub(crate) overflowed: bool,
-    pub(crate) pivots: u64,
 }
 
 fn moved(count: u32, up: bool) -> u32 {
@@ -60,11 +59,6 @@ impl<N: Number> Simplex<N> {
     /// Whether a number did not fit since the dictionary was made. It then answers nothing more.
     pub fn has_overflowed(&self) -> bool {
         self.overflowed
-    }
-
-    /// How many pivots were made.
-    pub fn pivots(&self) -> u64 {
-        self.pivots
     }
 
     #[inline(always)]

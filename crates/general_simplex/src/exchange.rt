@@ -116,7 +116,6 @@ impl<N: Number> Simplex<N> {
         self.nonbasic[col] = left;
         set_place(self.variables.as_mut_slice(), entered, true, row);
         set_place(self.variables.as_mut_slice(), left, false, col);
-        self.pivots = self.pivots.wrapping_add(1);
         Ok(true)
     }
 

@@ -2,6 +2,7 @@
 use Rattle.std.proofs.Common.{ℕ, ℤ, pos, ◌<◌, ◌≡◌, ◌≢◌, refl, arith, [], ◌∷◌}
 use Rattle.std.proofs.lemmas.List.Elements.{All-from_recursion}
 use Rattle.std.proofs.lemmas.Int.{ints}
+use Rattle.sense.specs.declared.objective.Sense.TheVariants.{Min}
 use Rattle.lpcc_case.specs.Cases.{FitsCase, IsConstraint, NamesInequality, IsCase, instance_of}
 use Rattle.pool_tests.specs.Small.{bound_of, bounds}
 
@@ -22,7 +23,7 @@ is_bound column rhs h f = record {
   right = f;
 }
 
-pub is_case : IsCase (instance_of 2 (pos 0 ∷ pos 0 ∷ []) (pos 1) (pos 0) bounds ((2, 3) ∷ []))
+pub is_case : IsCase (instance_of 2 (pos 0 ∷ pos 0 ∷ []) (pos 1) (pos 0) Min bounds ((2, 3) ∷ []))
 is_case = record {
   few_columns = omega arith;
   few_constraints = omega arith;

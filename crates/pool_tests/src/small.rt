@@ -4,6 +4,7 @@ ghost use Rattle.pool_tests.specs.Small.{bound_of, bounds};
 
 use lp_base::Sequence;
 use lpcc_case::{Case, Constraint, Kind};
+use sense::Sense;
 use std::alloc::{AllocError, Global};
 
 /// The words of the cut that adds `x >= 1` and minus `x >= 0`, tight by the choice `1a`.
@@ -55,5 +56,5 @@ pub fn small_case(alloc: Global) -> Result<Case, AllocError> {
     let cost = costs(alloc)?;
     let constraints = bounds(alloc)?;
     let pairs = pairs(alloc)?;
-    Ok(Case::of_parts(2, cost, 1, 0, constraints, pairs))
+    Ok(Case::of_parts(2, cost, 1, 0, Sense::Min, constraints, pairs))
 }

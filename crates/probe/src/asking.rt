@@ -78,22 +78,6 @@ impl Probe {
         self.dropped
     }
 
-    /// Whether the dictionary is in numbers of 128 bits, since those of 64 bits did not do.
-    pub fn is_wide(&self) -> bool {
-        match &self.dictionary {
-            Dictionary::Narrow(_) => false,
-            Dictionary::Wide(_) => true,
-        }
-    }
-
-    /// How many pivots the dictionary has made since it was last made anew.
-    pub fn pivots(&self) -> u64 {
-        match &self.dictionary {
-            Dictionary::Narrow(simplex) => simplex.pivots(),
-            Dictionary::Wide(simplex) => simplex.pivots(),
-        }
-    }
-
     /// Whether the dictionary stands where the constraint of a choice holds with equality. Nothing
     /// is claimed of it.
     pub fn is_tight(&self, case: &Case, choice: Choice) -> bool {
@@ -188,26 +172,6 @@ impl Probe {
         ensures { IfOk result (IsAnswer case.now (option_copied limit.entry) tight.now) }
     {
         let found = self.find(case, tight, limit, Aim::Point)?;
-        self.answer(case, tight, limit, found)
-    }
-
-    /// Asks as `ask` does. A point is one of least cost, unless the dictionary could not tell which
-    /// is, or the cost falls without end; nothing is claimed of that.
-    ///
-    /// # Errors
-    ///
-    /// Want of memory alone; the next question is answered as ever.
-    pub fn ask_low(
-        &mut self,
-        case: &Case,
-        tight: &NoGood,
-        limit: Option<&Point>,
-    ) -> Result<Answer, AllocError>
-        requires named { NamesPairs case.now tight.now }
-        requires limit { IsLimit case.now (option_copied limit) }
-        ensures { IfOk result (IsAnswer case.now (option_copied limit.entry) tight.now) }
-    {
-        let found = self.find(case, tight, limit, Aim::LowPoint)?;
         self.answer(case, tight, limit, found)
     }
 }

@@ -11,8 +11,6 @@ use std::alloc::{AllocError, Global};
 pub enum Aim {
     /// A point.
     Point,
-    /// A point, one of least cost if that is found.
-    LowPoint,
     /// A point of least cost, with the multipliers of the cost.
     Least,
 }
@@ -114,13 +112,6 @@ fn find_feasible<N: Number>(
     match aim {
         Aim::Point => {
             let end = simplex.enter_cost()?;
-            find_point(simplex, alloc, end)
-        },
-        Aim::LowPoint => {
-            let end = match simplex.optimise()? {
-                Optimum::Unknown if !simplex.has_overflowed() => Optimum::Reached,
-                end => end,
-            };
             find_point(simplex, alloc, end)
         },
         Aim::Least => find_least(simplex, alloc),

@@ -14,4 +14,3 @@ mod within;
 pub use answer::{Answer, Least};
 pub use asking::Probe;
 pub use below::{is_point_below, is_under};
-pub use within::is_within;

@@ -10,11 +10,10 @@ use crate::within::is_within;
 use cuts::{Cut, check_ray, point_bound};
 use general_simplex::Multipliers;
 use lp_base::Sequence;
-use lp_nums::compare;
 use lpcc_case::{Case, Point};
 use nogoods::{Choice, NoGood};
+use reasons::is_bound_for;
 use std::alloc::{AllocError, Global};
-use std::cmp::Ordering;
 
 fn is_not_longer(ng: &NoGood, tight: &NoGood) -> bool
     ensures { IsTrue result ↔ length ng.now ≤ length tight.now }
@@ -39,18 +38,6 @@ fn passed_bound(case: &Case, ng: &NoGood, mult: &Sequence<(u32, i64)>, e: i64) -
     match point_bound(case, ng, mult.as_slice(), e) {
         Ok(v) => Some(v),
         Err(_) => None,
-    }
-}
-
-/// Whether the bound `v / e` is at least the value of the limit.
-fn is_bound_for(limit: &Point, v: i128, e: i64) -> bool
-    requires first { pos 1 ≤ℤ e }
-    requires second { pos 1 ≤ℤ limit.now.d }
-    ensures { IsTrue result ↔ ((e *ℤ limit.now.z) ≤ℤ (v *ℤ limit.now.d)) }
-{
-    match compare(v, e, limit.z, limit.d) {
-        Ordering::Less => false,
-        Ordering::Equal | Ordering::Greater => true,
     }
 }
 

@@ -2,7 +2,7 @@
 //! is tested before it is logged.
 ghost use Rattle.std.specs.Prelude.{◌<◌, length};
 
-use crate::propagation::{choices_or_none, propagate};
+use crate::propagation::{choices_or_none, is_marked, propagate};
 use derivation::{Log, Step};
 use std::alloc::{AllocError, Global};
 
@@ -33,23 +33,12 @@ fn hints_of(log: &Log, at: usize) -> &[u64] {
     }
 }
 
-fn mark_step(marks: &mut Vec<bool>, hint: u64) {
-    let at = hint as usize;
-    if at < marks.len() {
-        marks[at] = true;
-    }
-}
-
 fn mark_steps(marks: &mut Vec<bool>, hints: &[u64]) {
     for hint in hints {
-        mark_step(marks, *hint);
-    }
-}
-
-fn is_marked(marks: &[bool], at: usize) -> bool {
-    match marks.get(at) {
-        Some(marked) => *marked,
-        None => false,
+        let at = *hint as usize;
+        if at < marks.len() {
+            marks[at] = true;
+        }
     }
 }
 

@@ -43,13 +43,6 @@ enum Pass {
     Open(Vec<u64>),
 }
 
-fn other_side(side: Side) -> Side {
-    match side {
-        Side::A => Side::B,
-        Side::B => Side::A,
-    }
-}
-
 /// The choices of the no-good of this number, none where the log has no such step.
 pub(crate) fn choices_or_none(log: &Log, at: usize) -> &[Choice]
     ensures ascending { pairs_ascend result.now ≡ true }
@@ -89,10 +82,7 @@ impl Run {
     }
 
     fn imply(&mut self, left: Choice, by: u64) -> Result<(), AllocError> {
-        self.assume(Choice {
-            pair: left.pair,
-            side: other_side(left.side),
-        });
+        self.assume(left.other());
         self.implied.push(Implied {
             pair: left.pair,
             by,
@@ -136,7 +126,7 @@ impl Run {
         let mut hints = Vec::new(alloc);
         hints.push(last)?;
         for implied in self.implied.iter().rev() {
-            if is_set(needed.as_slice(), implied.pair) {
+            if is_marked(needed.as_slice(), implied.pair as usize) {
                 mark(&mut needed, choices_or_none(log, implied.by as usize));
                 hints.push(implied.by)?;
             }
@@ -146,8 +136,9 @@ impl Run {
     }
 }
 
-fn is_set(marks: &[bool], pair: u32) -> bool {
-    match marks.get(pair as usize) {
+/// Whether there is a mark at this place.
+pub(crate) fn is_marked(marks: &[bool], at: usize) -> bool {
+    match marks.get(at) {
         Some(marked) => *marked,
         None => false,
     }

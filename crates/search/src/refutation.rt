@@ -13,13 +13,6 @@ use lpcc_case::MOST_PAIRS;
 use nogoods::NoGood;
 use std::alloc::{AllocError, Global};
 
-fn number_at(numbers: &[u64], hint: u64) -> u64 {
-    match numbers.get(hint as usize) {
-        Some(number) => *number,
-        None => hint,
-    }
-}
-
 fn set_number(numbers: &mut Vec<u64>, step: usize, number: usize) {
     if step < numbers.len() {
         numbers[step] = number as u64;
@@ -29,7 +22,10 @@ fn set_number(numbers: &mut Vec<u64>, step: usize, number: usize) {
 fn renumbered(alloc: Global, numbers: &[u64], hints: &[u64]) -> Result<Sequence<u64>, AllocError> {
     let mut made = Sequence::new(alloc);
     for hint in hints {
-        made.push(number_at(numbers, *hint))?;
+        match numbers.get(*hint as usize) {
+            Some(number) => made.push(*number)?,
+            None => made.push(*hint)?,
+        }
     }
     Ok(made)
 }

@@ -23,8 +23,8 @@ pub fn no_reasons(alloc: Global, ng: &NoGood) -> Result<Vec<Option<Reason>>, All
     Ok(found)
 }
 
-/// The place of a choice.
-fn place_of(ng: &NoGood, choice: Choice) -> Option<usize>
+/// The place of a choice. None where the no-good does not have it.
+pub fn place_of(ng: &NoGood, choice: Choice) -> Option<usize>
     ensures { IfSome result (λ p. slice_get ng.now p ≡ Some choice) }
 {
     ng.choices().iter().position(|one| *one == choice)

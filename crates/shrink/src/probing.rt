@@ -1,25 +1,18 @@
 //! Shrinking by known points and by the probe, without a walk.
-ghost use Rattle.std.specs.Prelude.{◌≡◌, IfOk, IfSome, Some, slice_get};
+ghost use Rattle.std.specs.Prelude.{IfOk};
 ghost use Rattle.std.specs.Option.{option_copied};
 ghost use Rattle.cuts.specs.Cuts.{Passes, no_good_of};
 ghost use Rattle.reasons.specs.Reasons.{IsActiveAgainst, IsLimit};
 ghost use Rattle.probe.specs.Answers.{IsCutWithin};
 
 use crate::KnownPoints;
-use crate::shrinking::no_good;
+use crate::found::place_of;
 use crate::trying::without;
 use cuts::Cut;
 use lpcc_case::{Case, Point};
-use nogoods::{Choice, NoGood};
+use nogoods::Choice;
 use probe::{Answer, Probe};
 use std::alloc::{AllocError, Global};
-
-/// The place of a choice.
-fn place_of(ng: &NoGood, choice: Choice) -> Option<usize>
-    ensures { IfSome result (λ k. slice_get ng.now k ≡ Some choice) }
-{
-    ng.choices().iter().position(|one| *one == choice)
-}
 
 /// A cut with choices among those of this one, and without the choice where a cut is found that does
 /// without it.
@@ -37,7 +30,7 @@ fn try_without(
     requires active { IsActiveAgainst cut (option_copied limit) }
     ensures { IfOk result (IsCutWithin case.now (option_copied limit.entry) (no_good_of cut)) }
 {
-    let ng = no_good(&cut);
+    let ng = cut.no_good();
     let Some(k) = place_of(ng, choice) else {
         return Ok(cut);
     };
@@ -75,7 +68,7 @@ pub fn shrink_by_probe(
     requires active { IsActiveAgainst cut (option_copied limit) }
     ensures { IfOk result (IsCutWithin case.now (option_copied limit.entry) (no_good_of cut)) }
 {
-    let choices = Vec::from_slice(alloc, no_good(&cut).choices())?;
+    let choices = Vec::from_slice(alloc, cut.no_good().choices())?;
     let mut made = cut;
     for choice in choices.as_slice() {
         made = try_without(alloc, case, made, *choice, limit, known, probe)?;

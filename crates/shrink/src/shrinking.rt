@@ -1,7 +1,7 @@
 //! Shrinking of cuts.
-ghost use Rattle.std.specs.Prelude.{◌≡◌, IfOk};
+ghost use Rattle.std.specs.Prelude.{IfOk};
 ghost use Rattle.std.specs.Option.{option_copied};
-ghost use Rattle.cuts.specs.Cuts.{Passes, no_good_of};
+ghost use Rattle.cuts.specs.Cuts.{Passes};
 ghost use Rattle.reasons.specs.Reasons.{IsActiveAgainst, IsLimit};
 ghost use Rattle.shrink.specs.Shrinking.{IsShrunk};
 
@@ -11,18 +11,8 @@ use crate::trying::try_all;
 use crate::{KnownPoints, Shrunk};
 use cuts::Cut;
 use lpcc_case::{Case, Point};
-use nogoods::NoGood;
 use probe::Probe;
 use std::alloc::{AllocError, Global};
-
-/// The no-good of a cut.
-pub fn no_good(cut: &Cut) -> &NoGood
-    ensures { result.now ≡ no_good_of cut.now }
-{
-    match cut {
-        Cut::Ray { ng, .. } | Cut::Point { ng, .. } => ng,
-    }
-}
 
 /// Drops choices of a cut for as long as the program of the others is infeasible, or bounded by the
 /// limit: its cut then takes the place of the old one. Each time the first choice is tried that has
@@ -73,14 +63,14 @@ pub fn shrink_with(
         known.keep_lower(limit);
     }
     let mut cut = cut;
-    let mut found = no_reasons(alloc, no_good(&cut))?;
+    let mut found = no_reasons(alloc, cut.no_good())?;
     loop {
-        let ng = no_good(&cut);
+        let ng = cut.no_good();
         let Some(smaller) = try_all(alloc, case, ng, limit, pivots, &mut found, known)? else {
             let kept = kept_of(alloc, ng, found)?;
             return Ok(Shrunk { cut, kept });
         };
-        found = carried(alloc, ng, found, no_good(&smaller))?;
+        found = carried(alloc, ng, found, smaller.no_good())?;
         cut = smaller;
     }
 }

@@ -334,9 +334,8 @@ impl<N: Number> Row<N> {
     }
 
     /// Puts for the variable that enters what the pivot's row says of it. `terms` are the terms of
-    /// that row but for its entry there, `i` is the number of this row, and `products` is room for one
-    /// row. False where a number
-    /// does not fit: the dictionary is then of no use.
+    /// that row but for its entry there, `i` is the number of this row, and `products` is room for
+    /// one row. False where a number does not fit: the dictionary is then of no use.
     #[inline(always)]
     pub fn eliminate(
         &mut self,

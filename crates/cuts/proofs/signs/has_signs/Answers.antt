@@ -12,9 +12,9 @@ mark_chosen-requires-clause-unmarked c = λ k. get_or-same 2000 k false
 
 pub loop-multiplier-preserved : goal.loop-multiplier-preserved
 loop-multiplier-preserved c =
-    All-more (HasSign c.args.case.now c.args.ng.now) c.args.mult.now c.loop-multiplier.multiplier-index (0, pos 0) c.loop-multiplier-test.true c.loop-multiplier.invariant (λ negative inequality. elim c.else-needs_choice.branch [
+    All-more (HasSign c.args.case.now c.args.choices.now) c.args.mult.now c.loop-multiplier.multiplier-index (0, pos 0) c.loop-multiplier-test.true c.loop-multiplier.invariant (λ negative inequality. elim c.else-needs_choice.branch [
       | else-needs_choice-via-then-needs_choice+else-not-marks-multiplier w ↦
-          rw c.choices.ensures.list at ((c.mark_chosen.ensures (get_or c.args.mult.now c.loop-multiplier.multiplier-index (0, pos 0)).0).0 w.if-not-marks-multiplier.false)
+          (c.mark_chosen.ensures (get_or c.args.mult.now c.loop-multiplier.multiplier-index (0, pos 0)).0).0 w.if-not-marks-multiplier.false
       | else-needs_choice-via-else-needs_choice w ↦ absurd (false≢true (sym w.if-needs_choice.false ∙ c.needs_choice.ensures.1 (negative, rw c.constraints-constraints.ensures.list inequality)))
     ])
 
