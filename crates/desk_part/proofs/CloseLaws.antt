@@ -114,12 +114,6 @@ piece_keeps_form a sides few size = record {
   pairs_named = All-weaker (λ (c : Choice). c.pair < length a.pairs) (λ (c : Choice). c.pair < 512) (λ c below. omega (arith, below, few)) (choices_of sides) (choices_named a sides size);
 }
 
-pub no_choices : {X : Type 0} (o : Option X) (list : List Choice) (sides : List Side) → o ≡ None → list ≡ choices_of sides → (IsSome o ↔ IsTrue (pairs_ascend list)) → ⊥
-no_choices o list sides none is exact = absurd (apart (ap (λ x. is_some x) (sym none) ∙ exact.1 (subst (λ l. IsTrue (pairs_ascend l)) (sym is) (choices_ascend sides))))
-  where
-    apart : false ≡ true → ⊥
-    apart e = cc
-
 pub z_small : (a : Instance) (q : Point) → IsCase a → IsPointOf a q → unsigned_abs q.z ≤ 2 ^ 126
 z_small a q kept h =
     let n = a.columns in

@@ -31,24 +31,7 @@ use Rattle.play.proofs.StartLaws.{starts_derived, starts_start}
 use Rattle.play.proofs.TrimLaws.{start_at}
 use Rattle.desk_part.specs.Lines.{AreCounted, AreReady, line_by}
 
--- ---- choices and terms, one more
-
-choices_push : (k : ℕ) (sides : List Side) (s : Side) → choices_from k (sides ++ s ∷ []) ≡ choices_from k sides ++ (record { pair = k + length sides; side = s }) ∷ []
-choices_push k [] s =
-    let same : k ≡ k + 0 = omega arith in
-    ap (λ i. (record { pair = i; side = s }) ∷ []) same
-choices_push k (t ∷ sides) s =
-    let same : k + 1 + length sides ≡ k + length (t ∷ sides) = omega arith in
-    ap (λ l. (record { pair = k; side = t }) ∷ l) (choices_push (k + 1) sides s ∙ ap (λ i. choices_from (k + 1) sides ++ (record { pair = i; side = s }) ∷ []) same)
-
-pub choices_next : (sides : List Side) (at : ℕ) (made new : List Choice) → at < length sides → made ≡ choices_of (take at sides) → new ≡ made ++ (record { pair = at; side = get_or sides at A }) ∷ [] → new ≡ choices_of (take (at + 1) sides)
-choices_next sides at made new inside is added =
-    let size : length (take at sides) ≡ at = Rattle.std.proofs.lemmas.List.length-take-le at sides (omega (arith, inside)) in
-    let same : 0 + length (take at sides) ≡ at = omega (arith, size) in
-    added ∙ ap (λ l. l ++ (record { pair = at; side = get_or sides at A }) ∷ []) is
-    ∙ ap (λ i. choices_of (take at sides) ++ (record { pair = i; side = get_or sides at A }) ∷ []) (sym same)
-    ∙ sym (choices_push 0 (take at sides) (get_or sides at A))
-    ∙ ap choices_of (sym (take_more sides at A inside))
+-- ---- terms, one more
 
 terms_both : (b : Bool) (i : ℕ) (z : ℤ) (terms more : List (ℕ × ℤ)) → (if b then terms else (i, z) ∷ terms) ++ more ≡ (if b then terms ++ more else (i, z) ∷ (terms ++ more))
 terms_both true i z terms more = refl

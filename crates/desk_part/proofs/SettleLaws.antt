@@ -98,10 +98,6 @@ cut_bars a t (outcome.Unbounded point ray) may = tt
 cut_bars a t (outcome.Wide at) may = tt
 cut_bars a t (outcome.Spent at) may = tt
 
-of_best : (a : Instance) (best : Option Point) → IsBest a best → IfSome best (λ q. pos 1 ≤ℤ q.d)
-of_best a None h = tt
-of_best a (Some q) h = h.of.fits.positive
-
 -- the best point of a part has a denominator of at least 1
 pub best_positive : (a : Instance) (o : Options) (d : Part) → IsCarried a o d → IfSome d.best (λ (q : Point). pos 1 ≤ℤ q.d)
-best_positive a o d h = of_best a d.best (carried_standing a o h.0 d h.1).truth.best
+best_positive a o d h = Rattle.play.proofs.Bests.best_positive a d.best (carried_standing a o h.0 d h.1).truth.best

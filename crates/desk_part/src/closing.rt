@@ -16,14 +16,13 @@ ghost use Rattle.desk_part.specs.DeskParts.{EndingKeepsForm, IsCarried, IsOver, 
 ghost use Rattle.desk_part.specs.Stuck.{IsStuckEnding, ending_of};
 
 use crate::DeskPart;
-use crate::copies::choices_of;
 use crate::lines::lines_of;
 use crate::points::{cert_point, terms_of};
 use crate::stuck::lowest;
 use cert_text::{Cert, CertLine};
 use lp_base::Sequence;
 use lpcc_case::{Case, Point};
-use play::{Aside, Cause, Direction, Ending, Options, VerdictKind};
+use play::{Aside, Cause, Direction, Ending, Options, VerdictKind, choices_of};
 use search::Found;
 use std::alloc::{AllocError, Global};
 

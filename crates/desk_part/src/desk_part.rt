@@ -11,14 +11,13 @@ ghost use Rattle.desk_part.specs.DeskParts.{Draws, CutBars, IsBack, IsCarried, I
 ghost use Rattle.desk_part.specs.declared.answer.Draw.TheVariants as draw;
 
 use crate::Draw;
-use crate::copies::copy_piece;
 use crate::look::{KeptSearch, look};
-use crate::settle::{absorb, fly, land, lowered};
+use crate::settle::{absorb, fly, land};
 use cuts::Cut;
 use derivation::Log;
 use lpcc_case::{Case, Point};
 use nogoods::Piece;
-use play::{Aside, Cause, Direction, Ending, Options, Outcome, Ticket, VerdictKind};
+use play::{Aside, Cause, Direction, Ending, Options, Outcome, Ticket, VerdictKind, lowered};
 use search::{Found, PieceSet};
 use std::alloc::{AllocError, Global};
 use std::marker::Model;
@@ -116,7 +115,7 @@ impl DeskPart {
         let ticket = Ticket {
             worker,
             number,
-            piece: copy_piece(alloc, &piece)?,
+            piece: piece.copy(alloc)?,
         };
         fly(alloc, &mut self.flight, &mut self.blocked, ticket)?;
         self.drawn = number + 1;

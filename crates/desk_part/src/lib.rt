@@ -4,7 +4,6 @@
 
 mod answer;
 mod closing;
-mod copies;
 mod desk_part;
 mod laws;
 mod lines;

@@ -15,7 +15,6 @@ ghost use Rattle.play.specs.Certificates.{AreTrimmedLines, line_at, line_of_cut}
 ghost use Rattle.play.specs.Truth.{starts_of};
 ghost use Rattle.desk_part.specs.Lines.{AreCounted, AreReady, line_by};
 
-use crate::copies::copy_no_good;
 use cert_text::CertLine;
 use cuts::Cut;
 use derivation::{Log, Step};
@@ -36,7 +35,8 @@ fn ray_line(
     ensures line { IfOk result (λ l. l ≡ line_of_cut (cut_of.Ray ng.now mult.now)) }
     ensures form { IfOk result IsLine }
 {
-    let ng = copy_no_good(alloc, ng)?;
+    let _choices = ng.choices();
+    let ng = ng.copy(alloc)?;
     let mult = mult.copy(alloc)?;
     Ok(CertLine::Ray { ng, mult })
 }
@@ -54,7 +54,8 @@ fn point_line(
     ensures line { IfOk result (λ l. l ≡ line_of_cut (cut_of.Point ng.now mult.now e v)) }
     ensures form { IfOk result IsLine }
 {
-    let ng = copy_no_good(alloc, ng)?;
+    let _choices = ng.choices();
+    let ng = ng.copy(alloc)?;
     let mult = mult.copy(alloc)?;
     Ok(CertLine::Point { ng, e, mult })
 }
@@ -84,7 +85,8 @@ fn derived_line(
     ensures line { IfOk result (λ l. l ≡ line_by (cut_of.Ray [] []) (step_of.Derived ng.now hints.now)) }
     ensures form { IfOk result IsLine }
 {
-    let ng = copy_no_good(alloc, ng)?;
+    let _choices = ng.choices();
+    let ng = ng.copy(alloc)?;
     let hints = hints.copy(alloc)?;
     Ok(CertLine::Derived { ng, hints })
 }

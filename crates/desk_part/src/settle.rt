@@ -4,26 +4,12 @@ ghost use Rattle.nogoods.specs.declared.choice.Side.{Side as Member};
 ghost use Rattle.cuts.specs.Cuts.{no_good_of};
 ghost use Rattle.derivation.specs.declared.step.Step.TheVariants as step;
 ghost use Rattle.play.specs.Parts.{flight_of, without};
-ghost use Rattle.play.specs.Points.{lowered};
 
-use crate::copies::{copy_no_good, copy_piece};
 use cuts::Cut;
 use derivation::Log;
-use lpcc_case::{Point, lower};
-use nogoods::NoGood;
 use play::Ticket;
 use search::PieceSet;
 use std::alloc::{AllocError, Global};
-
-/// The no-good of a cut.
-pub fn no_good(cut: &Cut) -> &NoGood
-    ensures { result.now ≡ no_good_of cut.now }
-{
-    match cut {
-        Cut::Ray { ng, .. } => ng,
-        Cut::Point { ng, .. } => ng,
-    }
-}
 
 /// Absorbs the cut, with its no-good as a start of the log. Without memory nothing changes.
 pub fn absorb(alloc: Global, absorbed: &mut Vec<Cut>, log: &mut Log, cut: Cut) -> Result<(), Cut>
@@ -33,7 +19,7 @@ pub fn absorb(alloc: Global, absorbed: &mut Vec<Cut>, log: &mut Log, cut: Cut) -
     ensures same_log { OnErr result (log.new ≡ log.old) }
     ensures back { IfErr result (λ c. c ≡ cut) }
 {
-    let Ok(ng) = copy_no_good(alloc, no_good(&cut)) else {
+    let Ok(ng) = cut.no_good().copy(alloc) else {
         return Err(cut);
     };
     if absorbed.reserve(1).is_err() {
@@ -61,32 +47,13 @@ pub fn fly(
     ensures same_flight { OnErr result (flight.new.items ≡ flight.old.items) }
     ensures same_blocked { OnErr result (blocked.new ≡ blocked.old) }
 {
-    let piece = copy_piece(alloc, &ticket.piece)?;
+    let piece = ticket.piece.copy(alloc)?;
     flight.reserve(1)?;
     if blocked.insert(piece).is_err() {
         return Err(AllocError);
     }
     flight.push(ticket)?;
     Ok(())
-}
-
-/// The lower point of two, the old one where neither is lower.
-pub fn lowered(old: Option<Point>, offer: Option<Point>) -> Option<Point>
-    requires old { IfSome old (λ q. pos 1 ≤ℤ q.d) }
-    requires offer { IfSome offer (λ q. pos 1 ≤ℤ q.d) }
-    ensures { result ≡ lowered old offer }
-{
-    let Some(offer) = offer else {
-        return old;
-    };
-    let Some(old) = old else {
-        return Some(offer);
-    };
-    if lower(&offer, &old) {
-        Some(offer)
-    } else {
-        Some(old)
-    }
 }
 
 fn place_of(flight: &[Ticket], number: u64) -> usize

@@ -4,7 +4,6 @@ ghost use Rattle.cuts.specs.Cuts.{no_good_of};
 ghost use Rattle.nogoods.specs.Pieces.{Bars};
 ghost use Rattle.desk_part.specs.Stuck.{IsBefore, IsBehind, LowestUpto};
 
-use crate::settle::no_good;
 use cuts::Cut;
 use nogoods::{Piece, bars};
 use play::Aside;
@@ -13,7 +12,7 @@ use play::Aside;
 fn is_barred(absorbed: &[Cut], piece: &Piece) -> bool
     ensures { IsTrue result ↔ Any (λ c. Bars (no_good_of c) piece.now) absorbed.now }
 {
-    absorbed.iter().any(|cut| bars(no_good(cut), piece))
+    absorbed.iter().any(|cut| bars(cut.no_good(), piece))
 }
 
 fn is_not_above(left: &Aside, right: &Aside) -> bool

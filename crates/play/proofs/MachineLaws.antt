@@ -1,5 +1,5 @@
 -- The best point and the history fall.
-use Rattle.std.proofs.Common.{inl, inr, ℕ, ◌≡◌, refl, ap, ◌*ℤ◌, Bool, true, false, List, [], ◌∷◌}
+use Rattle.std.proofs.Common.{inl, inr, ℕ, ◌≡◌, refl, ap, subst, ◌*ℤ◌, Bool, true, false, List, [], ◌∷◌, ◌++◌, length-set}
 use Rattle.std.specs.Prelude.{Option, Some, None, if◌then◌else◌}
 use Rattle.lpcc_case.specs.Instance.{Instance}
 use Rattle.lpcc_case.specs.declared.point.Point.{Point}
@@ -13,7 +13,9 @@ use Rattle.play.specs.Parts.{Part, Machine, flight_of}
 use Rattle.play.specs.Points.{is_below, lowered}
 use Rattle.play.specs.Steps.{after, settle, take_open, take_outcome}
 use Rattle.play.specs.Records.{LeadsLawfully}
-use Rattle.play.specs.Machines.{Falls, FallsTo, MachineLeads, history, joined, step}
+use Rattle.play.specs.declared.event.Lawful.TheVariants.{Yes}
+use Rattle.play.specs.Lawful.{lane_at}
+use Rattle.play.specs.Machines.{Falls, FallsTo, IsStep, MachineLeads, history, joined, step, workers_of}
 use Rattle.play.proofs.PointLaws.{lt_from}
 
 falls_cond : (q r : Point) (rest : List Point) (b : Bool) → is_below q r ≡ b → Falls (r ∷ rest) → Falls (if b then q ∷ r ∷ rest else r ∷ rest)
@@ -34,7 +36,7 @@ lower_cond : (r q : Point) (b : Bool) → is_below q r ≡ b → FallsTo (Some r
 lower_cond r q true e = inr (q, refl, lt_from (q.z *ℤ r.d) (r.z *ℤ q.d) e)
 lower_cond r q false e = inl refl
 
-lowered_falls : (old offer : Option Point) → FallsTo old (lowered old offer)
+pub lowered_falls : (old offer : Option Point) → FallsTo old (lowered old offer)
 lowered_falls None None = inl refl
 lowered_falls (Some r) None = inl refl
 lowered_falls None (Some q) = inr (q, refl, tt)
@@ -69,3 +71,20 @@ best_falls d (Conclude verdict) = inl refl
 pub machine_part : (a : Instance) (n : ℕ) (m : Machine) (xs : List Event) (e : Machine) → MachineLeads a n m xs e → LeadsLawfully a n m.part xs e.part
 machine_part a n m [] e leads = ap (λ (x : Machine). x.part) leads
 machine_part a n m (x ∷ xs) e leads = (leads.0.desk, machine_part a n (step x m) xs e leads.1)
+
+-- no event changes the number of workers
+workers_stay : (m : Machine) (x : Event) → workers_of (step x m) ≡ workers_of m
+workers_stay m (Publish lane c) = length-set m.outer.lanes lane (lane_at m.outer lane ++ c ∷ [])
+workers_stay m (Read worker lane place) = refl
+workers_stay m (Offer worker point) = refl
+workers_stay m (Draw worker number piece) = refl
+workers_stay m (Absorb c) = refl
+workers_stay m (Learn ng hints) = refl
+workers_stay m (Settle worker number what) = refl
+workers_stay m (Conclude verdict) = refl
+
+-- an event that is taken, and lawful events behind it
+pub taken_leads : (a : Instance) (m : Machine) (x : Event) (e : Machine) (xs : List Event) (f : Machine) → IsStep a m x e Yes → MachineLeads a (workers_of e) e xs f → MachineLeads a (workers_of m) m (x ∷ xs) f
+taken_leads a m x e xs f taken leads =
+    let rest : MachineLeads a (workers_of (step x m)) (step x m) xs f = subst (λ d. MachineLeads a (workers_of d) d xs f) taken.1 leads in
+    (taken.0, subst (λ n. MachineLeads a n (step x m) xs f) (workers_stay m x) rest)

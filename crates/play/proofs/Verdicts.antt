@@ -7,6 +7,7 @@ use Rattle.lp_nums.specs.Fractions.{Fraction, SameValue}
 use Rattle.nogoods.specs.declared.choice.Choice.{Choice}
 use Rattle.nogoods.specs.declared.choice.Side.{Side}
 use Rattle.nogoods.specs.Pieces.{Bars, IsChoiceOf}
+use Rattle.sense.specs.Senses.{signed}
 use Rattle.lpcc_case.specs.Instance.{Instance}
 use Rattle.lpcc_case.specs.Points as points
 use Rattle.lpcc_case.specs.Points.{IsFeasible, IsTightAt}
@@ -56,7 +57,7 @@ no_better a drawn d best h empty active p feasible improves =
     let bars : Bars (no_good_of found.0) piece.0 = subst (λ ng. Bars ng piece.0) (sym found.2) barred.4 in
     nothing_lower a found.0 best p (cut_is_true a found.0 sound.0) (active found.0 sound.1) piece.2.met (λ k e inside. piece.2.tight _ (bars k e inside)) improves
 
-value_moves : (a : Instance) (p : points.Point a.columns) (z d : ℤ) (value : Fraction) (denominator : ℕ) → points.cost_at a p ≡ z → pos p.d ≡ d → pos denominator ≡ value.den → SameValue value (record { num = z +ℤ (a.offset *ℤ d); den = a.scale *ℤ d }) → HasValue a p value.num denominator
+value_moves : (a : Instance) (p : points.Point a.columns) (z d : ℤ) (value : Fraction) (denominator : ℕ) → points.cost_at a p ≡ z → pos p.d ≡ d → pos denominator ≡ value.den → SameValue value (record { num = signed a.sense (z +ℤ (a.offset *ℤ d)); den = a.scale *ℤ d }) → HasValue a p value.num denominator
 value_moves a p z d value denominator cost same den is = rw (cost, same, den) (sym is)
 
 optimal_true : (a : Instance) (drawn : List (List Side)) (d : Part) (q : Point) (value : Fraction) → IsTrueToBest a drawn d → d.best ≡ Some q → Contains (no_goods d.log) [] → IsValue a q.z q.d value → IsTrueOf a (Optimal value)

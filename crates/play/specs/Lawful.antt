@@ -23,7 +23,7 @@ use Rattle.cuts.specs.declared.reason.Reason.{Reason}
 use Rattle.cuts.specs.declared.reason.Reason.TheVariants as reason
 use Rattle.play.specs.Parts.{Part, Outer, Machine, flight_of, barring, taken}
 use Rattle.reasons.specs.Reasons.{IsActiveAgainst}
-use Rattle.play.specs.Points.{IsBest, IsDirection}
+use Rattle.play.specs.Points.{IsBest, IsDirection, direction}
 
 -- ---- the parts of an event fit the instance and the number of workers
 
@@ -84,7 +84,7 @@ pub record MayCut (a : Instance) (piece : List Side) (c : Cut) (best : Option Po
 abbrev pub MaySettle : Instance → Ticket → Outcome → Type 0
 MaySettle a t (outcome.Cut c kept best) = MayCut a t.piece c best
 MaySettle a t (outcome.Barred lane place c best) = MayCut a t.piece c best
-MaySettle a t (outcome.Unbounded point ray) = IsDirection a (record { piece = t.piece; point = point; ray = ray })
+MaySettle a t (outcome.Unbounded point ray) = IsDirection a (direction t.piece point ray)
 MaySettle a t (outcome.Wide at) = Unit {0}
 MaySettle a t (outcome.Spent at) = Unit {0}
 

@@ -1,9 +1,10 @@
 -- The state of a run: the desk part, which alone carries the verdict, and the outer part round it.
-use Rattle.std.specs.Prelude.{ℕ, nat_eq, if◌then◌else◌, List, [], ◌∷◌, ◌++◌, map, Option, Some, None}
+use Rattle.std.specs.Prelude.{ℕ, ℤ, nat_eq, if◌then◌else◌, List, [], ◌∷◌, ◌++◌, map, Option, Some, None}
 use Rattle.nogoods.specs.declared.choice.Choice.{Choice}
 use Rattle.nogoods.specs.declared.choice.Side.{Side}
 use Rattle.lpcc_case.specs.declared.point.Point.{Point}
 use Rattle.cuts.specs.declared.cut.Cut.{Cut}
+use Rattle.cuts.specs.declared.cut.Cut.TheVariants as cut
 use Rattle.cuts.specs.Cuts.{no_good_of}
 use Rattle.derivation.specs.declared.step.Step.{Step}
 use Rattle.play.specs.declared.event.Ticket.{Ticket}
@@ -44,6 +45,11 @@ piece_of t = t.piece
 
 abbrev pub piece_aside : Aside → List Side
 piece_aside x = x.piece
+
+-- none of a ray cut, and the factor and the bound of a point cut
+abbrev pub kind_of : Cut → Option (ℤ × ℤ)
+kind_of (cut.Ray ng mult) = None
+kind_of (cut.Point ng mult e v) = Some (e, v)
 
 -- the no-goods of the absorbed cuts
 abbrev pub barring : Part → List (List Choice)

@@ -7,6 +7,7 @@ use Rattle.lpcc_case.specs.Points.{IsFeasible, Recedes}
 use Rattle.lpcc_case.specs.Pieces.{IsPiece, LiesIn}
 use Rattle.lpcc_case.specs.NarrowPoints.{AreNumbersOf, IsPointOf}
 use Rattle.lpcc_case.specs.declared.point.Point.{Point}
+use Rattle.lpcc_case.specs.declared.point.Ray.{Ray}
 use Rattle.reasons.specs.Reasons.{Has}
 use Rattle.play.specs.declared.event.Direction.{Direction}
 
@@ -37,6 +38,9 @@ choices_from k (s ∷ sides) = (record { pair = k; side = s }) ∷ choices_from 
 -- the choices of a piece
 abbrev pub choices_of : List Side → List Choice
 choices_of sides = choices_from 0 sides
+
+abbrev pub direction : List Side → Point → Ray → Direction
+direction piece point ray = record { piece = piece; point = point; ray = ray }
 
 -- the point lies in the piece, and the ray recedes for it
 pub record IsDirection (a : Instance) (x : Direction) : Type 0 where

@@ -89,6 +89,15 @@ pub enum Event {
     },
 }
 
+/// Whether an event may happen.
+#[derive(Clone, Copy, Debug, Drop, PartialEq, Eq)]
+pub enum Lawful {
+    /// It may, and it has happened.
+    Yes,
+    /// It may not, and nothing has changed.
+    No,
+}
+
 /// Whether the cut of an outcome has a reason for each choice that it keeps.
 #[derive(Clone, Copy, Debug, Drop, PartialEq, Eq)]
 pub enum ShrinkMode {

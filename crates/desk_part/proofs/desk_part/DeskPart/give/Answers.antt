@@ -10,7 +10,7 @@ use Rattle.desk_part.proofs.desk_part.DeskPart.give.Goals as goal
 
 pub invariant_of-self-2 : goal.invariant_of-self-2
 invariant_of-self-2 c =
-    let t : Ticket = record { worker = c.args.worker; number = c.self.inside.drawn; piece = c.in_ok-copy_piece.field-0 } in
+    let t : Ticket = record { worker = c.args.worker; number = c.self.inside.drawn; piece = c.in_ok-copy.field-0 } in
     draw_result (the_view c.self.inside) t c.self.inside.blocked c.fly.new.blocked c.self.inside.kept c.fly.new.flight.items c.in_ok-fly.ensures.flight c.in_ok-fly.ensures.blocked c.self.invariant
 
 pub returns-clause-ok : goal.returns-clause-ok
@@ -20,4 +20,4 @@ returns-clause-ok c =
     let draws : Part → Part = λ x. after (Draw c.args.worker c.self.inside.drawn c.args.piece) x in
     given c.args.case.now c.args.options.now c.args.self.now _ c.args.worker c.self.inside.drawn c.args.piece
     (gives c.args.case.now c.args.options.now c.args.self.now c.args.worker c.self.inside.drawn c.args.piece c.requires.waiting c.requires.settled c.requires.known c.requires.free (ap (λ (x : Part). x.drawn) c.self.view_is) (omega (arith, c.if-self-options.false)) (omega (arith, room)) c.requires.first)
-    (drawn_same d c.fly.new.flight.items c.args.worker c.self.inside.drawn c.in_ok-copy_piece.field-0 c.args.piece c.in_ok-copy_piece.ensures c.in_ok-fly.ensures.flight ∙ ap draws c.self.view_is)
+    (drawn_same d c.fly.new.flight.items c.args.worker c.self.inside.drawn c.in_ok-copy.field-0 c.args.piece c.in_ok-copy.ensures c.in_ok-fly.ensures.flight ∙ ap draws c.self.view_is)
