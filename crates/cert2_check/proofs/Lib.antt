@@ -1,0 +1,6 @@
+pub mod Merging
+pub mod Showing
+pub mod Faulting
+pub mod Wholly
+pub mod Judging2
+pub mod Answering2

@@ -1,0 +1,2 @@
+pub mod Acceptance2
+pub mod Results2
