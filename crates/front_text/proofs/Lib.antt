@@ -1,0 +1,10 @@
+pub mod Going
+pub mod Walks
+pub mod Naturals
+pub mod Lined
+pub mod Digits
+pub mod Forms
+pub mod Texts
+pub mod Again
+pub mod Whole
+pub mod Clauses

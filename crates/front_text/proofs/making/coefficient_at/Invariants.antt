@@ -1,0 +1,6 @@
+use Rattle.std.proofs.Common.{◌≡◌, drop}
+use Rattle.front_text.specs.Problems.{coefficient_at}
+use Rattle.front_text.proofs.making.coefficient_at.Given as goal
+
+abbrev pub invariant-loop-term : goal.invariant-loop-term
+invariant-loop-term l = coefficient_at (drop l.term-index l.fn.terms) l.fn.variable ≡ coefficient_at l.fn.terms l.fn.variable
