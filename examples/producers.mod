@@ -1,0 +1,11 @@
+var p >= 0, <= 9;
+var s >= 0;
+var q{1..2} >= 0;
+var u{1..2} >= 0;
+minimize cost: p + 0.75 * s;
+cap1: q[1] <= 4;
+cap2: q[2] <= 3;
+sell1: u[1] - p >= -2;
+sell2: u[2] - p >= -5;
+need: q[1] + q[2] + s >= 6;
+end;
