@@ -99,18 +99,29 @@ pub counted : (blank : Bool) (m : ℕ) → blank ≡ false → cond (not blank) 
 counted true m h = absurd cc
 counted false m h = one m
 
-field_goes_on : (found : List (List ℕ)) (rest after field : List ℕ) (n : ℕ) (all : List (List ℕ)) → 0 < length rest → is_blank (get_or rest 0 0) ≡ false → n ≡ prefix_len in_field rest
-    → field ≡ take n rest → after ≡ drop n rest → found ++ fields rest ≡ all → (found ++ field ∷ []) ++ fields after ≡ all
-field_goes_on found [] after field n all lt h en ef ea so_far = absurd (omega (arith, lt))
-field_goes_on found (b ∷ bs) after field n all lt h en ef ea so_far =
+-- the first field, where no blank stands in front of it
+pub field_first : (rest after field : List ℕ) (n : ℕ) (all : List (List ℕ)) → 0 < length rest → is_blank (get_or rest 0 0) ≡ false → n ≡ prefix_len in_field rest → field ≡ take n rest → after ≡ drop n rest → fields rest ≡ all
+    → all ≡ field ∷ fields after
+field_first [] after field n all lt h en ef ea so_far = absurd (omega (arith, lt))
+field_first (b ∷ bs) after field n all lt h en ef ea so_far =
     let m = prefix_len in_field bs in
     let k : n ≡ suc m = en ∙ counted (is_blank b) m h in
     let ef2 : field ≡ b ∷ take m bs = ef ∙ ap (λ (j : ℕ). take j (b ∷ bs)) k in
     let ea2 : after ≡ drop m bs = ea ∙ ap (λ (j : ℕ). drop j (b ∷ bs)) k in
-    let split : field ∷ fields after ≡ fields (b ∷ bs) = ap (λ (x : List ℕ). x ∷ fields after) ef2 ∙ ap (λ (y : List ℕ). (b ∷ take m bs) ∷ fields y) ea2 ∙ sym (field_front b bs h) in
-    append_assoc found (field ∷ []) (fields after) ∙ ap (λ (t : List (List ℕ)). found ++ t) split ∙ so_far
+    sym so_far ∙ field_front b bs h ∙ sym (ap (λ (x : List ℕ). x ∷ fields after) ef2 ∙ ap (λ (y : List ℕ). (b ∷ take m bs) ∷ fields y) ea2)
 
-pub field_found : (ks : List (Bor (List ℕ))) (k : Bor (List ℕ)) (new : List (Bor (List ℕ))) (rest after : List ℕ) (n : ℕ) (all : List (List ℕ)) → new ≡ ks ++ k ∷ [] → 0 < length rest → is_blank (get_or rest 0 0) ≡ false → n ≡ prefix_len in_field rest
-    → k.now ≡ take n rest → after ≡ drop n rest → map shown ks ++ fields rest ≡ all → map shown new ++ fields after ≡ all
-field_found ks k new rest after n all e lt h en ef ea so_far =
-    ap (λ (x : List (Bor (List ℕ))). map shown x ++ fields after) e ∙ ap (λ (x : List (List ℕ)). x ++ fields after) (map_push ks k) ∙ field_goes_on (map shown ks) rest after k.now n all lt h en ef ea so_far
+-- a blank in front
+pub blank_first : (rest after : List ℕ) (all : List (List ℕ)) → 0 < length rest → is_blank (get_or rest 0 0) ≡ true → after ≡ drop 1 rest → fields rest ≡ all → fields after ≡ all
+blank_first [] after all lt h ea so_far = absurd (omega (arith, lt))
+blank_first (b ∷ bs) after all lt h ea so_far = ap fields ea ∙ sym (blank (is_blank b) _ _ h) ∙ so_far
+  where
+    blank : {X : Type 0} (t : Bool) (x y : X) → t ≡ true → cond t x y ≡ x
+    blank true x y e = refl
+    blank false x y e = absurd cc
+
+-- one field more is held
+pub field_found : (ks : List (Bor (List ℕ))) (k : Bor (List ℕ)) (new : List (Bor (List ℕ))) (rest after : List ℕ) (all : List (List ℕ)) → new ≡ ks ++ k ∷ [] → fields rest ≡ k.now ∷ fields after → map shown ks ++ fields rest ≡ all
+    → map shown new ++ fields after ≡ all
+field_found ks k new rest after all e f so_far =
+    ap (λ (x : List (Bor (List ℕ))). map shown x ++ fields after) e ∙ ap (λ (x : List (List ℕ)). x ++ fields after) (map_push ks k) ∙ append_assoc (map shown ks) (k.now ∷ []) (fields after)
+    ∙ ap (λ (x : List (List ℕ)). map shown ks ++ x) (sym f) ∙ so_far

@@ -1,4 +1,5 @@
 pub mod Cutting
+pub mod First
 pub mod Placing
 pub mod Passing
 pub mod Slicing

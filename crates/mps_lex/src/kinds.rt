@@ -3,6 +3,7 @@ ghost use Rattle.std.specs.Prelude.{◌≡◌, map};
 ghost use Rattle.std.specs.List.{list_all};
 ghost use Rattle.mps_lex.specs.Lines.{content};
 ghost use Rattle.mps_lex.specs.Kinds.{is_blank, section_named, is_left_out, kind_alone, kind_at_margin, kind_indented, kind_of, is_passed, fields};
+ghost use Rattle.mps_lex.specs.First.{first_of};
 ghost use Rattle.mps_lex.specs.Shown.{shown};
 
 use crate::line::{LineKind, Section};
@@ -105,9 +106,9 @@ fn kind_indented(fields: &[&[u8]]) -> LineKind
     }
 }
 
-/// What a line with these bytes and fields is.
+/// What a line with these bytes and first fields is.
 pub fn kind_of(text: &[u8], found: &[&[u8]]) -> LineKind
-    requires { map shown found.now ≡ fields text.now }
+    requires { map shown found.now ≡ first_of (fields text.now) }
     ensures { result ≡ kind_of text.now }
 {
     match text {

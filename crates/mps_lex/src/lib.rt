@@ -10,4 +10,4 @@ mod split;
 pub use kinds::is_passed;
 pub use laws::fields_are_slices;
 pub use line::{Line, LineKind, Section, SplitLine, line_of, lines};
-pub use split::first_piece;
+pub use split::{FIRST_FIELDS, content_of, count_fields, first_field, first_piece};

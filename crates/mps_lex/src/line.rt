@@ -2,6 +2,7 @@
 ghost use Rattle.std.specs.Prelude.{◌≡◌, ◌<◌, ◌+◌, ◌-◌, ◌^◌, IfOk, length};
 ghost use Rattle.mps_lex.specs.Lines.{line_of};
 ghost use Rattle.mps_lex.specs.Places.{placed_line, placed_lines};
+ghost use Rattle.mps_lex.specs.First.{shortened};
 ghost use Rattle.mps_lex.specs.Shown.{seen_line};
 
 use crate::kinds::kind_of;
@@ -51,21 +52,21 @@ pub struct Line {
     pub fields: Sequence<(u32, u32)>,
 }
 
-/// A line of a text, with the bytes of its fields.
+/// A line of a text, with the bytes of its first fields.
 #[derive(Drop)]
 pub struct SplitLine<'a> {
     /// Its number, from 1.
     pub number: u32,
     pub kind: LineKind,
-    /// The longest runs of bytes other than space and tab.
+    /// Its first fields, the longest runs of bytes other than space and tab.
     pub fields: Vec<&'a [u8]>,
     /// How many bytes it has, its end with them.
     pub size: usize,
 }
 
-/// The line of a piece of a text, with its number.
+/// The line of a piece of a text, with its number and its first fields.
 pub fn line_of<'a>(alloc: Global, number: u32, piece: &'a [u8]) -> Result<SplitLine<'a>, AllocError>
-    ensures { IfOk result (λ l. seen_line l ≡ line_of number piece.now) }
+    ensures { IfOk result (λ l. seen_line l ≡ shortened (line_of number piece.now)) }
 {
     let text = content_of(piece);
     let fields = fields_of(alloc, text)?;

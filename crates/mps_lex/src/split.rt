@@ -1,11 +1,16 @@
 //! How a text falls into pieces, and a piece into fields.
-ghost use Rattle.std.specs.Prelude.{◌≡◌, ◌<◌, ◌≤◌, ◌+◌, ◌∷◌, ◌==◌, not, IfOk, map, length};
+ghost use Rattle.std.specs.Prelude.{◌≡◌, ◌<◌, ◌≤◌, ◌+◌, ◌∷◌, [], ◌==◌, not, IfOk, IfSome, IfNone, map, length};
 ghost use Rattle.std.specs.List.{prefix_len};
 ghost use Rattle.mps_lex.specs.Lines.{pieces, without_end, content};
 ghost use Rattle.mps_lex.specs.Kinds.{is_blank, fields};
+ghost use Rattle.mps_lex.specs.First.{first_of};
 ghost use Rattle.mps_lex.specs.Shown.{shown};
 
 use std::alloc::{AllocError, Global};
+
+/// How many fields of a line are held at most: one more than a line has that is neither a head nor
+/// a line of GROUPS.
+pub const FIRST_FIELDS: usize = 6;
 
 /// A space or a tab.
 pub fn is_blank(byte: u8) -> bool
@@ -71,19 +76,48 @@ pub fn content_of(piece: &[u8]) -> &[u8]
     without_end(b'\r', without_end(b'\n', piece))
 }
 
-/// The longest runs of bytes that are no blanks.
+/// The first field of a text, and what stands behind it. It takes no memory.
+pub fn first_field(text: &[u8]) -> Option<(&[u8], &[u8])>
+    ensures some { IfSome result (λ r. fields text.now ≡ r.0.now ∷ fields r.1.now) }
+    ensures shorter { IfSome result (λ r. length r.1.now < length text.now) }
+    ensures none { IfNone result (fields text.now ≡ []) }
+{
+    let mut rest = text;
+    while !rest.is_empty() {
+        if !is_blank(rest[0]) {
+            return Some(rest.split_at(run_len(rest)));
+        }
+        rest = &rest[1..];
+    }
+    None
+}
+
+/// The number of fields. It takes no memory.
+pub fn count_fields(text: &[u8]) -> usize
+    ensures { result ≡ length (fields text.now) }
+{
+    let mut count = 0;
+    let mut rest = text;
+    while let Some((_, after)) = first_field(rest) {
+        count += 1;
+        rest = after;
+    }
+    count
+}
+
+/// The first fields.
 pub fn fields_of<'a>(alloc: Global, text: &'a [u8]) -> Result<Vec<&'a [u8]>, AllocError>
-    ensures { IfOk result (λ v. map shown v.items ≡ fields text.now) }
+    ensures { IfOk result (λ v. map shown v.items ≡ first_of (fields text.now)) }
 {
     let mut found = Vec::new(alloc);
     let mut rest = text;
-    while !rest.is_empty() {
-        if is_blank(rest[0]) {
-            rest = &rest[1..];
-        } else {
-            let (field, after) = rest.split_at(run_len(rest));
-            found.push(field)?;
-            rest = after;
+    while found.len() < FIRST_FIELDS {
+        match first_field(rest) {
+            Some((field, after)) => {
+                found.push(field)?;
+                rest = after;
+            }
+            None => return Ok(found),
         }
     }
     Ok(found)

@@ -1,5 +1,5 @@
 -- What is known of groups when a line of GROUPS is read.
-use Rattle.std.proofs.Common.{ℕ, zero, suc, ◌+◌, ◌-◌, ◌≤◌, ◌≡◌, Bool, true, false, cond, ltb, List, [], ◌∷◌, ◌++◌, length, map, take, get_or, Option, Some, None, refl, sym, ap, ◌∙◌, arith}
+use Rattle.std.proofs.Common.{ℕ, ◌+◌, ◌-◌, ◌≤◌, ◌≡◌, Bool, true, false, cond, List, [], ◌∷◌, ◌++◌, length, map, take, get_or, Option, Some, None, refl, sym, ap, ◌∙◌, arith}
 use Rattle.std.proofs.lemmas.Bool.{ltb-false}
 use Rattle.std.proofs.lemmas.List.{length-append, length-map, take-append-le, take_all}
 use Rattle.mps_lex.specs.Kinds.{Name}
@@ -19,7 +19,7 @@ use Rattle.std.specs.List.{list_any}
 use Rattle.decks.proofs.KeptParts.{first_none, second_none, if_none}
 use Rattle.decks.proofs.KeptNames.{columns_push}
 use Rattle.decks.proofs.KeptGroups.{GroupStep, group_with, group_step, step_pairs}
-use Rattle.mps_pairs.specs.Groups.{KnownGroups, known_groups, no_group, items_of_last, items_here, other_groups, with_items, with_group, known_group_fault}
+use Rattle.mps_pairs.specs.Groups.{known_groups, no_group, items_of_last, items_here, other_groups, with_group, known_group_fault}
 
 -- ---- the last group
 

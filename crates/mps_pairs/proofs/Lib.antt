@@ -1,3 +1,4 @@
+pub mod First
 pub mod Judging
 pub mod GrowingBounds
 pub mod GroupWords

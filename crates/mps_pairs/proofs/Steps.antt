@@ -14,13 +14,13 @@ use Rattle.decks.specs.declared.deck.Deck.{Deck}
 use Rattle.decks.specs.declared.fault.DeckWhy.TheVariants.{LeftOutSection}
 use Rattle.mps_pairs.specs.declared.sections.SectionState.{SectionState}
 use Rattle.decks.specs.Sections.{Open, is_head, is_begun, behind, open_from, open_behind, slice}
-use Rattle.decks.specs.Senses.{sense_on_head, sense_on_line, sense_on, earlier, sense_from, sense_named}
+use Rattle.decks.specs.Senses.{sense_on, earlier, sense_from, sense_named}
 use Rattle.decks.specs.Bounds.{settings_in, column_bounds}
 use Rattle.mps_pairs.specs.Groups.{known_groups, known_group_fault}
 use Rattle.decks.specs.Spelling.{field, rows_of, entries_in, rows_in, column_names, pair_names, items_of, group_names, deck_groups, deck_of}
 use Rattle.decks.specs.Decks.{group_pairs}
-use Rattle.decks.specs.Faults.{◌or◌, Found, found_at, named_at, head_words_fault, end_fault, ended_fault, order_fault, data_fault, kind_fault, fault_of, pair_fault, group_fault}
-use Rattle.mps_pairs.specs.Known.{section_state, next_section_state, section_order_fault, Known, known, tables_of, with_data, with_head, next_kind, next_known, deck_from, known_fault, known_end_fault, known_kind_fault, line_fault}
+use Rattle.decks.specs.Faults.{◌or◌, Found, found_at, named_at, head_words_fault, end_fault, ended_fault, order_fault, data_fault, kind_fault, fault_of, pair_fault}
+use Rattle.mps_pairs.specs.Known.{section_state, next_section_state, section_order_fault, Known, known, tables_of, with_data, next_kind, next_known, deck_from, known_fault, known_end_fault, known_kind_fault, line_fault}
 use Rattle.decks.proofs.KeptParts.{map_none}
 use Rattle.decks.proofs.KeptRows.{rows_kept}
 use Rattle.decks.proofs.KeptEntries.{IsNamed}

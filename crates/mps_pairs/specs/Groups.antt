@@ -44,10 +44,6 @@ with_items k g items = record {
   pairs = k.pairs + new_pairs (length (items_here (has k.names g) k.groups)) (length items);
 }
 
--- a group behind the others, of which the items behind the first n are new
-abbrev pub with_last : KnownGroups → Name → List Quantity → ℕ → KnownGroups
-with_last k g items n = record { names = add_name k.names g; groups = k.groups ++ record { items = items } ∷ []; pairs = k.pairs + new_pairs n (length items - n) }
-
 abbrev pub with_group : List RowLine → List Name → KnownGroups → List Name → KnownGroups
 with_group rows columns k fs = with_items k (field 0 fs) (map (item_of rows columns) (items_on fs))
 

@@ -1,7 +1,7 @@
 //! Groups of quantities.
-ghost use Rattle.std.specs.Prelude.{◌≡◌, ◌≤◌, ◌+◌, ◌-◌, ◌∷◌, [], ◌++◌, not, true, None, IfOk, OnOk, length, map, nat_lt};
+ghost use Rattle.std.specs.Prelude.{◌≡◌, ◌<◌, ◌≤◌, ◌+◌, ◌∷◌, [], ◌++◌, not, true, None, IfOk, IfSome, IfNone, OnOk, length, map, nat_lt};
 ghost use Rattle.std.specs.List.{list_any};
-ghost use Rattle.mps_lex.specs.Shown.{shown};
+ghost use Rattle.mps_lex.specs.Kinds.{fields};
 ghost use Rattle.decks.specs.Decks.{new_pairs};
 ghost use Rattle.decks.specs.Names.{add_name, has};
 ghost use Rattle.decks.specs.Spelling.{item_of, items_in};
@@ -9,11 +9,12 @@ ghost use Rattle.decks.specs.Faults.{◌or◌, are_items, is_kind, is_split, fau
 ghost use Rattle.decks.specs.declared.fault.DeckWhy.TheVariants.{GroupSplit};
 ghost use Rattle.mps_tables.specs.Known.{bounds_with};
 ghost use Rattle.mps_tables.specs.Answers.{Checks, Judges};
-ghost use Rattle.mps_pairs.specs.Groups.{known_groups, other_groups, items_of_last, items_here, with_items, with_last, with_group, known_group_fault};
+ghost use Rattle.mps_pairs.specs.Groups.{known_groups, other_groups, items_of_last, items_here, with_items, with_group, known_group_fault};
 
 use crate::pairs::{is_kind, quantity};
 use decks::{DeckWhy, GroupLine, Quantity};
 use lp_base::{MOST_COLUMNS, MOST_PAIRS, Sequence};
+use mps_lex::{count_fields, first_field};
 use mps_tables::{BoundTable, Fault, Names, RowTable};
 use std::alloc::Global;
 use std::marker::Model;
@@ -36,19 +37,31 @@ impl<'a> Model for GroupTable<'a> {
 }
 
 // One or more times a kind and a name.
-fn are_items(words: &[&[u8]]) -> bool
-    ensures { result ≡ are_items (map shown words.now) }
+fn are_items(words: &[u8]) -> bool
+    ensures { result ≡ are_items (fields words.now) }
 {
-    !words.is_empty() && words.len() % 2 == 0
+    let count = count_fields(words);
+    count > 0 && count % 2 == 0
+}
+
+// The first kind and name of words, and what stands behind them.
+fn first_item(words: &[u8]) -> Option<(&[u8], &[u8], &[u8])>
+    ensures some { IfSome result (λ r. items_in (fields words.now) ≡ (r.0.now, r.1.now) ∷ items_in (fields r.2.now)) }
+    ensures shorter { IfSome result (λ r. length r.2.now < length words.now) }
+    ensures none { IfNone result (items_in (fields words.now) ≡ []) }
+{
+    let (kind, after) = first_field(words)?;
+    let (name, more) = first_field(after)?;
+    Some((kind, name, more))
 }
 
 // Whether one of the words in the places of kinds is none.
-fn has_other_kind(words: &[&[u8]]) -> bool
-    ensures { result ≡ list_any (λ w. not (is_kind w.0)) (items_in (map shown words.now)) }
+fn has_other_kind(words: &[u8]) -> bool
+    ensures { result ≡ list_any (λ w. not (is_kind w.0)) (items_in (fields words.now)) }
 {
     let mut rest = words;
-    while let [kind, _, more @ ..] = rest {
-        if !is_kind(*kind) {
+    while let Some((kind, _, more)) = first_item(rest) {
+        if !is_kind(kind) {
             return true;
         }
         rest = more;
@@ -56,21 +69,44 @@ fn has_other_kind(words: &[&[u8]]) -> bool
     false
 }
 
-// Adds the items that words name.
-fn parse_items<'a>(
+// Checks the items that words name, and counts them. It takes no memory.
+#[tactic(auto, using(mps_tables::proofs::Judging::first_is))]
+fn check_items<'a>(
     rows: &RowTable<'a>,
     columns: &Names<'a>,
     bounds: &BoundTable<'a>,
-    words: &[&'a [u8]],
+    words: &'a [u8],
+) -> Result<usize, DeckWhy>
+    requires { length columns.now ≤ MOST_COLUMNS }
+    ensures fault { Checks result (items_fault rows.now columns.now (bounds_with bounds.now.columns) (items_in (fields words.now))) }
+    ensures count { IfOk result (λ n. n ≡ length (items_in (fields words.now))) }
+{
+    let mut count = 0;
+    let mut rest = words;
+    while let Some((kind, name, more)) = first_item(rest) {
+        quantity(rows, columns, bounds, kind, name)?;
+        count += 1;
+        rest = more;
+    }
+    Ok(count)
+}
+
+// Adds the items that words name, which have no fault.
+fn add_items<'a>(
+    rows: &RowTable<'a>,
+    columns: &Names<'a>,
+    bounds: &BoundTable<'a>,
+    words: &'a [u8],
     items: &mut Sequence<Quantity>,
 ) -> Result<(), Fault>
-    requires { length columns.now ≤ MOST_COLUMNS }
-    ensures fault { Judges result (items_fault rows.now columns.now (bounds_with bounds.now.columns) (items_in (map shown words.now))) }
-    ensures ok { OnOk result (items.new ≡ items.old ++ map (item_of rows.now columns.now) (items_in (map shown words.now))) }
+    requires few { length columns.now ≤ MOST_COLUMNS }
+    requires right { items_fault rows.now columns.now (bounds_with bounds.now.columns) (items_in (fields words.now)) ≡ None }
+    ensures fault { Judges result None }
+    ensures ok { OnOk result (items.new ≡ items.old ++ map (item_of rows.now columns.now) (items_in (fields words.now))) }
 {
     let mut rest = words;
-    while let [kind, name, more @ ..] = rest {
-        match quantity(rows, columns, bounds, *kind, *name) {
+    while let Some((kind, name, more)) = first_item(rest) {
+        match quantity(rows, columns, bounds, kind, name) {
             Ok(found) => items.push(found)?,
             Err(why) => return Err(Fault::Of(why)),
         }
@@ -142,8 +178,8 @@ impl<'a> GroupTable<'a> {
     }
 
     // Checks what stands on a line of GROUPS before its items are looked up.
-    fn check_front(&self, name: &'a [u8], words: &[&'a [u8]]) -> Result<(), DeckWhy>
-        ensures { Checks result (group_front_fault self.now.names name.now (map shown words.now)) }
+    fn check_front(&self, name: &'a [u8], words: &[u8]) -> Result<(), DeckWhy>
+        ensures { Checks result (group_front_fault self.now.names name.now (fields words.now)) }
     {
         if !are_items(words) {
             return Err(DeckWhy::FieldCount);
@@ -187,23 +223,45 @@ impl<'a> GroupTable<'a> {
         Ok(())
     }
 
-    // Puts a group behind the others, of which the items behind the first n are new, where its pairs
-    // are not too many with those that there are.
-    fn put_within(
-        &mut self,
+    // Checks the items of a line, and counts the pairs that groups make with them behind the n items
+    // that its group has.
+    #[tactic(auto, using(mps_tables::proofs::Judging::first_is, mps_tables::proofs::Judging::then_is))]
+    fn check(
+        &self,
+        rows: &RowTable<'a>,
+        columns: &Names<'a>,
+        bounds: &BoundTable<'a>,
         pairs: usize,
-        name: &'a [u8],
-        items: Sequence<Quantity>,
         n: usize,
-    ) -> Result<(), Fault>
-        requires { n ≤ length items }
-        ensures fault { Judges result (full_group_fault (pairs + self.old.pairs) n (length items - n)) }
-        ensures ok { OnOk result (self.new ≡ with_last self.old name.now items n) }
+        words: &'a [u8],
+    ) -> Result<usize, DeckWhy>
+        requires { length columns.now ≤ MOST_COLUMNS }
+        ensures fault { Checks result (items_fault rows.now columns.now (bounds_with bounds.now.columns) (items_in (fields words.now)) or full_group_fault (pairs + self.now.pairs) n (length (items_in (fields words.now)))) }
+        ensures right { IfOk result (λ all. items_fault rows.now columns.now (bounds_with bounds.now.columns) (items_in (fields words.now)) ≡ None) }
+        ensures count { IfOk result (λ all. all ≡ self.now.pairs + new_pairs n (length (items_in (fields words.now)))) }
     {
-        match count_pairs(pairs, self.pairs, n, items.len() - n) {
-            Ok(all) => self.put(name, items, all),
-            Err(why) => Err(Fault::Of(why)),
-        }
+        let more = check_items(rows, columns, bounds, words)?;
+        count_pairs(pairs, self.pairs, n, more)
+    }
+
+    // Adds the items of a line to its group, which have no fault; then groups make so many pairs.
+    fn add(
+        &mut self,
+        rows: &RowTable<'a>,
+        columns: &Names<'a>,
+        bounds: &BoundTable<'a>,
+        name: &'a [u8],
+        words: &'a [u8],
+        mut items: Sequence<Quantity>,
+        pairs: usize,
+    ) -> Result<(), Fault>
+        requires few { length columns.now ≤ MOST_COLUMNS }
+        requires right { items_fault rows.now columns.now (bounds_with bounds.now.columns) (items_in (fields words.now)) ≡ None }
+        ensures fault { Judges result None }
+        ensures ok { OnOk result (self.new ≡ record { names = add_name self.old.names name.now; groups = self.old.groups ++ record { items = items ++ map (item_of rows.now columns.now) (items_in (fields words.now)) } ∷ []; pairs = pairs }) }
+    {
+        add_items(rows, columns, bounds, words, &mut items)?;
+        self.put(name, items, pairs)
     }
 
     // Adds the items of a line to its group.
@@ -216,16 +274,15 @@ impl<'a> GroupTable<'a> {
         bounds: &BoundTable<'a>,
         pairs: usize,
         name: &'a [u8],
-        words: &[&'a [u8]],
+        words: &'a [u8],
     ) -> Result<(), Fault>
         requires { length columns.now ≤ MOST_COLUMNS }
-        ensures fault { Judges result (items_fault rows.now columns.now (bounds_with bounds.now.columns) (items_in (map shown words.now)) or full_group_fault (pairs + self.old.pairs) (length (items_here (has self.old.names name.now) self.old.groups)) (length (items_in (map shown words.now)))) }
-        ensures ok { OnOk result (self.new ≡ with_items self.old name.now (map (item_of rows.now columns.now) (items_in (map shown words.now)))) }
+        ensures fault { Judges result (items_fault rows.now columns.now (bounds_with bounds.now.columns) (items_in (fields words.now)) or full_group_fault (pairs + self.old.pairs) (length (items_here (has self.old.names name.now) self.old.groups)) (length (items_in (fields words.now)))) }
+        ensures ok { OnOk result (self.new ≡ with_items self.old name.now (map (item_of rows.now columns.now) (items_in (fields words.now)))) }
     {
-        let mut items = self.take_items(alloc, name);
-        let before = items.len();
-        parse_items(rows, columns, bounds, words, &mut items)?;
-        self.put_within(pairs, name, items, before)
+        let items = self.take_items(alloc, name);
+        let all = self.check(rows, columns, bounds, pairs, items.len(), words)?;
+        self.add(rows, columns, bounds, name, words, items, all)
     }
 
     /// Parses a line of GROUPS, below these rows, columns and bounds, and so many pairs of PAIRS.
@@ -237,17 +294,17 @@ impl<'a> GroupTable<'a> {
         columns: &Names<'a>,
         bounds: &BoundTable<'a>,
         pairs: usize,
-        fields: &[&'a [u8]],
+        text: &'a [u8],
     ) -> Result<(), Fault>
         requires { length columns.now ≤ MOST_COLUMNS }
-        ensures fault { Judges result (known_group_fault rows.now columns.now (bounds_with bounds.now.columns) self.old pairs (map shown fields.now)) }
-        ensures ok { OnOk result (self.new ≡ with_group rows.now columns.now self.old (map shown fields.now)) }
+        ensures fault { Judges result (known_group_fault rows.now columns.now (bounds_with bounds.now.columns) self.old pairs (fields text.now)) }
+        ensures ok { OnOk result (self.new ≡ with_group rows.now columns.now self.old (fields text.now)) }
     {
-        match fields {
-            [] => Err(Fault::Of(DeckWhy::FieldCount)),
-            [name, words @ ..] => {
-                self.check_front(*name, words)?;
-                self.parse_group(alloc, rows, columns, bounds, pairs, *name, words)
+        match first_field(text) {
+            None => Err(Fault::Of(DeckWhy::FieldCount)),
+            Some((name, words)) => {
+                self.check_front(name, words)?;
+                self.parse_group(alloc, rows, columns, bounds, pairs, name, words)
             }
         }
     }

@@ -1,7 +1,8 @@
 //! Reading a deck.
 ghost use Rattle.std.specs.Prelude.{◌≡◌, ◌+◌, ◌-◌, ◌<◌, ◌≤◌, ◌^◌, OnOk, IfOk, IfErr, Ok, Err, Option, None, Some, true, ℕ, [], length, map};
 ghost use Rattle.mps_lex.specs.Lines.{line_of};
-ghost use Rattle.mps_lex.specs.Shown.{seen_line, shown};
+ghost use Rattle.mps_lex.specs.Shown.{shown};
+ghost use Rattle.mps_lex.specs.First.{HoldsFirst, whole};
 ghost use Rattle.decks.specs.declared.deck.Deck as spelled;
 ghost use Rattle.decks.specs.declared.fault.DeckWhy as why;
 ghost use Rattle.decks.specs.declared.fault.DeckWhy.TheVariants.{LeftOutSection};
@@ -19,7 +20,7 @@ use crate::sections::SectionState;
 use crate::senses::sense_of_head;
 use crate::tables::Tables;
 use decks::{Deck, DeckFault, DeckWhy};
-use mps_lex::{LineKind, Section, SplitLine, first_piece, line_of};
+use mps_lex::{LineKind, Section, SplitLine, content_of, first_piece, line_of};
 use mps_tables::Fault;
 use sense::Sense;
 use std::alloc::{AllocError, Global};
@@ -73,18 +74,23 @@ fn words_in_order(
     sense_of_head(next, fields)
 }
 
-fn check_head(
+// Checks a head, and gives the sense that it names behind its word.
+fn check_head<'a>(
     state: SectionState,
-    number: u32,
     next: Section,
-    fields: &[&[u8]],
+    line: &SplitLine<'a>,
+    text: &'a [u8],
 ) -> Result<Option<Sense>, DeckFault>
-    ensures fault { JudgesAt result (named_at number (section_order_fault state next or head_words_fault next (map shown fields.now))) }
-    ensures value { IfOk result (λ o. o ≡ sense_on_head next (map shown fields.now)) }
+    requires { HoldsFirst line.now text.now }
+    ensures fault { JudgesAt result (named_at (whole line.now text.now).number (section_order_fault state next or head_words_fault next (whole line.now text.now).fields)) }
+    ensures value { IfOk result (λ o. o ≡ sense_on_head next (whole line.now text.now).fields) }
 {
-    match words_in_order(state, next, fields) {
+    match words_in_order(state, next, &line.fields) {
         Ok(sense) => Ok(sense),
-        Err(why) => Err(DeckFault::At { line: number, why }),
+        Err(why) => Err(DeckFault::At {
+            line: line.number,
+            why,
+        }),
     }
 }
 
@@ -108,13 +114,15 @@ fn parse_head<'a>(
     tables: &mut Tables<'a>,
     next: Section,
     line: &SplitLine<'a>,
+    text: &'a [u8],
 ) -> Result<(), DeckFault>
-    ensures fault { JudgesAt result (known_end_fault state.old tables.old (seen_line line.now).number or named_at (seen_line line.now).number (section_order_fault state.old next or head_words_fault next (seen_line line.now).fields)) }
+    requires { HoldsFirst line.now text.now }
+    ensures fault { JudgesAt result (known_end_fault state.old tables.old (whole line.now text.now).number or named_at (whole line.now text.now).number (section_order_fault state.old next or head_words_fault next (whole line.now text.now).fields)) }
     ensures state { OnOk result (state.new ≡ begin state.old next) }
-    ensures tables { OnOk result (tables.new ≡ with_head tables.old next (seen_line line.now).fields) }
+    ensures tables { OnOk result (tables.new ≡ with_head tables.old next (whole line.now text.now).fields) }
 {
     check_end(*state, tables, line.number)?;
-    let sense = check_head(*state, line.number, next, &line.fields)?;
+    let sense = check_head(*state, next, line, text)?;
     *state = state.begin(next);
     tables.note(sense);
     Ok(())
@@ -125,11 +133,13 @@ fn parse_entry<'a>(
     current: Option<Section>,
     tables: &mut Tables<'a>,
     line: &SplitLine<'a>,
+    text: &'a [u8],
 ) -> Result<(), DeckFault>
-    ensures fault { JudgesAt result (named_at (seen_line line.now).number (known_fault current tables.old (seen_line line.now).fields)) }
-    ensures tables { OnOk result (tables.new ≡ with_data current tables.old (seen_line line.now).number (seen_line line.now).fields) }
+    requires { HoldsFirst line.now text.now }
+    ensures fault { JudgesAt result (named_at (whole line.now text.now).number (known_fault current tables.old (whole line.now text.now).fields)) }
+    ensures tables { OnOk result (tables.new ≡ with_data current tables.old (whole line.now text.now).number (whole line.now text.now).fields) }
 {
-    match tables.parse_data(alloc, current, line.number, &line.fields) {
+    match tables.parse_data(alloc, current, line, text) {
         Err(fault) => Err(at_line(fault, line.number)),
         Ok(()) => Ok(()),
     }
@@ -141,10 +151,12 @@ fn parse_line<'a>(
     state: &mut SectionState,
     tables: &mut Tables<'a>,
     line: &SplitLine<'a>,
+    text: &'a [u8],
 ) -> Result<(), DeckFault>
-    ensures fault { JudgesAt result (line_fault state.old tables.old (seen_line line.now)) }
-    ensures state { OnOk result (state.new ≡ next_section_state state.old (seen_line line.now).kind) }
-    ensures tables { OnOk result (tables.new ≡ next_known state.old.current tables.old (seen_line line.now)) }
+    requires { HoldsFirst line.now text.now }
+    ensures fault { JudgesAt result (line_fault state.old tables.old (whole line.now text.now)) }
+    ensures state { OnOk result (state.new ≡ next_section_state state.old (whole line.now text.now).kind) }
+    ensures tables { OnOk result (tables.new ≡ next_known state.old.current tables.old (whole line.now text.now)) }
 {
     match line.kind {
         LineKind::Blank | LineKind::Comment => Ok(()),
@@ -153,8 +165,8 @@ fn parse_line<'a>(
             why: DeckWhy::UnknownSection,
         }),
         LineKind::LeftOut => Err(left_out(*state, tables, line.number)),
-        LineKind::Head(next) => parse_head(state, tables, next, line),
-        LineKind::Entry => parse_entry(alloc, state.current, tables, line),
+        LineKind::Head(next) => parse_head(state, tables, next, line, text),
+        LineKind::Entry => parse_entry(alloc, state.current, tables, line, text),
     }
 }
 
@@ -180,7 +192,7 @@ fn parse_piece<'a>(
     match line_of(alloc, number, piece) {
         Err(error) => Err(DeckFault::NoMemory(error)),
         Ok(line) => {
-            parse_line(alloc, state, tables, &line)?;
+            parse_line(alloc, state, tables, &line, content_of(piece))?;
             Ok(ends_deck(line.kind))
         }
     }

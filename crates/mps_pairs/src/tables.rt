@@ -1,7 +1,11 @@
 //! The reader's tables.
-ghost use Rattle.std.specs.Prelude.{◌≡◌, ◌≤◌, ◌+◌, ◌∷◌, ◌++◌, if◌then◌else◌, OnOk, IfOk, None, [], map, length, position, unwrap_or};
+ghost use Rattle.std.specs.Prelude.{◌≡◌, ◌≤◌, ◌+◌, ◌∷◌, ◌++◌, if◌then◌else◌, false, OnOk, IfOk, None, [], map, length, position, unwrap_or};
 ghost use Rattle.std.specs.List.{position_or_len};
+ghost use Rattle.mps_lex.specs.Kinds.{fields};
 ghost use Rattle.mps_lex.specs.Shown.{shown};
+ghost use Rattle.mps_lex.specs.First.{HoldsFirst};
+ghost use Rattle.mps_lex.specs.declared.line.Section.TheVariants.{Groups};
+ghost use Rattle.decks.specs.Sections.{is_open};
 ghost use Rattle.decks.specs.Spelling.{is_n, has_objective, kept, deck_row};
 ghost use Rattle.mps_tables.specs.Known.{bounds_with, with_bound};
 ghost use Rattle.mps_tables.specs.Answers.{Judges};
@@ -20,7 +24,7 @@ use crate::senses::sense_of_line;
 use decks::{Column, Deck, DeckWhy, Letter, Row};
 use lp_base::{MOST_ROWS, Sequence};
 use lp_nums::Frac;
-use mps_lex::Section;
+use mps_lex::{Section, SplitLine};
 use mps_tables::{BoundTable, ColumnTable, Fault, Names, RowState, RowTable, RowValueTable, is_n};
 use sense::Sense;
 use std::alloc::{AllocError, Global};
@@ -143,6 +147,13 @@ fn deck_columns<'a>(
     Ok(found)
 }
 
+// Whether GROUPS stands open.
+fn is_groups(current: Option<Section>) -> bool
+    ensures { result ≡ is_open Groups current }
+{
+    matches!(current, Some(Section::Groups))
+}
+
 impl<'a> Tables<'a> {
     pub fn new(alloc: Global) -> Tables<'a>
         ensures { result ≡ known [] }
@@ -189,9 +200,9 @@ impl<'a> Tables<'a> {
             .parse(&self.rows, self.columns.names(), &self.bounds, fields)
     }
 
-    fn parse_group(&mut self, alloc: Global, fields: &[&'a [u8]]) -> Result<(), Fault>
-        ensures fault { Judges result (known_group_fault self.old.rows self.old.columns.names (bounds_with self.old.bounds.columns) self.old.groups (length self.old.pairs.names) (map shown fields.now)) }
-        ensures ok { OnOk result (self.new ≡ record self.old { groups = with_group self.old.rows self.old.columns.names self.old.groups (map shown fields.now) }) }
+    fn parse_group(&mut self, alloc: Global, text: &'a [u8]) -> Result<(), Fault>
+        ensures fault { Judges result (known_group_fault self.old.rows self.old.columns.names (bounds_with self.old.bounds.columns) self.old.groups (length self.old.pairs.names) (fields text.now)) }
+        ensures ok { OnOk result (self.new ≡ record self.old { groups = with_group self.old.rows self.old.columns.names self.old.groups (fields text.now) }) }
     {
         self.groups.parse(
             alloc,
@@ -199,7 +210,7 @@ impl<'a> Tables<'a> {
             self.columns.names(),
             &self.bounds,
             self.pairs.len(),
-            fields,
+            text,
         )
     }
 
@@ -225,14 +236,14 @@ impl<'a> Tables<'a> {
         }
     }
 
-    /// Takes a data line of what stands open.
-    pub fn parse_data(
+    // Takes the fields of a data line of what stands open, if that is not GROUPS.
+    fn parse_fields(
         &mut self,
-        alloc: Global,
         current: Option<Section>,
         number: u32,
         fields: &[&'a [u8]],
     ) -> Result<(), Fault>
+        requires { is_open Groups current ≡ false }
         ensures fault { Judges result (known_fault current self.old (map shown fields.now)) }
         ensures ok { OnOk result (self.new ≡ with_data current self.old number (map shown fields.now)) }
     {
@@ -244,11 +255,28 @@ impl<'a> Tables<'a> {
             Some(Section::Ranges) => self.ranges.parse(&self.rows, fields),
             Some(Section::Bounds) => self.parse_bound(number, fields),
             Some(Section::Pairs) => self.parse_pair(fields),
-            Some(Section::Groups) => self.parse_group(alloc, fields),
-            None | Some(Section::Name | Section::Endata) => {
+            None | Some(Section::Name | Section::Groups | Section::Endata) => {
                 Err(Fault::Of(DeckWhy::SectionOrder))
             }
         }
+    }
+
+    /// Takes a data line of what stands open, with these bytes.
+    pub fn parse_data(
+        &mut self,
+        alloc: Global,
+        current: Option<Section>,
+        line: &SplitLine<'a>,
+        text: &'a [u8],
+    ) -> Result<(), Fault>
+        requires { HoldsFirst line.now text.now }
+        ensures fault { Judges result (known_fault current self.old (fields text.now)) }
+        ensures ok { OnOk result (self.new ≡ with_data current self.old line.now.number (fields text.now)) }
+    {
+        if is_groups(current) {
+            return self.parse_group(alloc, text);
+        }
+        self.parse_fields(current, line.number, &line.fields)
     }
 
     /// Takes the deck out, with the line of ENDATA.
