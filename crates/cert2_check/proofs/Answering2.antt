@@ -93,7 +93,7 @@ any_one a (Two c) n v w x y = two_one a c n v w x y
 
 -- ---- the first line that fails, and the verdict
 
-one_refusal : (a : Instance) (c : AnyCert) (m n : ℕ) (v w : NoWhy) → RefusesAny a c m v → RefusesAny a c n w → (m ≡ n) × (v ≡ w)
+pub one_refusal : (a : Instance) (c : AnyCert) (m n : ℕ) (v w : NoWhy) → RefusesAny a c m v → RefusesAny a c n w → (m ≡ n) × (v ≡ w)
 one_refusal a c m n v w x y = elim (cases_order m n) [
   | inl same ↦
       let F : ℕ → Type 0 = λ k. LineFailsAny a c k v in
@@ -102,9 +102,12 @@ one_refusal a c m n v w x y = elim (cases_order m n) [
   | inr (inr above) ↦ absurd (x.first n w above y.fails)
 ]
 
-one_verdict_any : (a : Instance) (c : AnyCert) (v w : Verdict) → pos 1 ≤ℤ a.scale → AcceptsAny a c v → AcceptsAny a c w → v ≡ w
+pub one_verdict_any : (a : Instance) (c : AnyCert) (v w : Verdict) → pos 1 ≤ℤ a.scale → AcceptsAny a c v → AcceptsAny a c w → v ≡ w
 one_verdict_any a (One c) v w scale x y = one_verdict a c v w scale (record { passes = x.passes; claims = x.claims }) (record { passes = y.passes; claims = y.claims })
 one_verdict_any a (Two c) v w scale x y = one_verdict a (whole_of c) v w scale (whole_accepted a c v x) (whole_accepted a c w y)
+
+pub not_both_any : (a : Instance) (c : AnyCert) (v : Verdict) (n : ℕ) (why : NoWhy) → AcceptsAny a c v → RefusesAny a c n why → ⊥
+not_both_any a c v n why accepted refused = accepted.passes n why refused.fails
 
 -- ---- the clauses of the call
 

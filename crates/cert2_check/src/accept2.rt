@@ -1,5 +1,5 @@
 //! Acceptance of a certificate of either form for a case.
-ghost use Rattle.std.specs.Prelude.{◌≤◌, ◌^◌, All, IfErr, IfOk, unsigned_abs, ℕ};
+ghost use Rattle.std.specs.Prelude.{◌≤◌, ◌^◌, All, IfErr, IfOk, None, Some, unsigned_abs, ℕ};
 ghost use Rattle.lpcc_case.specs.Verdicts.{IsTrueOf};
 ghost use Rattle.lpcc_case.specs.declared.verdict.Verdict.{Verdict as Claim};
 ghost use Rattle.lp_base.specs.Answers.{Gives, Refuses as IsRefused};
@@ -10,7 +10,7 @@ ghost use Rattle.cert_check.specs.Results.{NamesFirst};
 ghost use Rattle.cert2_text.specs.declared.cert2.AnyCert.TheVariants as either;
 ghost use Rattle.cert2_text.specs.Certs2.{IsLine2, KeepsForm2};
 ghost use Rattle.cert2_check.specs.Acceptance2.{AcceptsAny, FrontFails, KeepsAny, RefusesAny, RefusesAnyAs};
-ghost use Rattle.cert2_check.specs.Results2.{FrontPasses};
+ghost use Rattle.cert2_check.specs.Results2.{AreTested, AreTestedIn, FrontPasses};
 
 use crate::lines2::judge_lines;
 use cert_check::accept::judge_unbounded;
@@ -23,7 +23,12 @@ use lpcc_case::{Case, Verdict, is_complementary, value_of};
 use std::alloc::Global;
 
 /// Judges the lines of a point and its value.
-fn judge_front(alloc: Global, case: &Case, line: &CertPoint, z: i128) -> Result<Frac, CheckFault>
+pub fn judge_front(
+    alloc: Global,
+    case: &Case,
+    line: &CertPoint,
+    z: i128,
+) -> Result<Frac, CheckFault>
     requires point { IsPoint line.now }
     requires room { unsigned_abs z ≤ 2 ^ 126 }
     ensures passed { IfOk result (FrontPasses case.now line.now z) }
@@ -57,39 +62,53 @@ fn judge_optimal(
     line: &CertPoint,
     z: i128,
     lines: &[Cert2Line],
+    tested: &[bool],
 ) -> Result<Verdict, CheckFault>
     requires point { IsPoint line.now }
     requires room { unsigned_abs z ≤ 2 ^ 126 }
     requires form { All IsLine2 lines.now }
+    requires tested { AreTested case.now (Some (z, line.now.d)) lines.now tested.now }
     ensures accepted { IfOk result (AcceptsAny case.now (either.Two (Cert2.Optimal line.now z lines.now))) }
     ensures refused { IfErr result (RefusesAnyAs case.now (either.Two (Cert2.Optimal line.now z lines.now))) }
 {
     let value = judge_front(alloc, case, line, z)?;
-    judge_lines(alloc, case, Some((z, line.d)), lines, 5)?;
+    judge_lines(alloc, case, Some((z, line.d)), lines, tested, 5)?;
     Ok(Verdict::Optimal(value))
 }
 
 /// Judges a certificate that no point is feasible.
-fn judge_infeasible(alloc: Global, case: &Case, lines: &[Cert2Line]) -> Result<Verdict, CheckFault>
-    requires { All IsLine2 lines.now }
+fn judge_infeasible(
+    alloc: Global,
+    case: &Case,
+    lines: &[Cert2Line],
+    tested: &[bool],
+) -> Result<Verdict, CheckFault>
+    requires form { All IsLine2 lines.now }
+    requires tested { AreTested case.now None lines.now tested.now }
     ensures accepted { IfOk result (AcceptsAny case.now (either.Two (Cert2.Infeasible lines.now))) }
     ensures refused { IfErr result (RefusesAnyAs case.now (either.Two (Cert2.Infeasible lines.now))) }
 {
-    judge_lines(alloc, case, None, lines, 3)?;
+    judge_lines(alloc, case, None, lines, tested, 3)?;
     Ok(Verdict::Infeasible)
 }
 
-/// Judges a certificate of form 2, line by line.
-fn judge_two(alloc: Global, case: &Case, cert: &Cert2) -> Result<Verdict, CheckFault>
-    requires { KeepsForm2 cert.now }
+/// Judges a certificate of form 2, line by line. Cuts that are marked were tested before.
+pub fn judge_two(
+    alloc: Global,
+    case: &Case,
+    cert: &Cert2,
+    tested: &[bool],
+) -> Result<Verdict, CheckFault>
+    requires form { KeepsForm2 cert.now }
+    requires tested { AreTestedIn case.now cert.now tested.now }
     ensures accepted { IfOk result (AcceptsAny case.now (either.Two cert.now)) }
     ensures refused { IfErr result (RefusesAnyAs case.now (either.Two cert.now)) }
 {
     match cert {
         Cert2::Optimal { point, z, lines } => {
-            judge_optimal(alloc, case, point, *z, lines.as_slice())
+            judge_optimal(alloc, case, point, *z, lines.as_slice(), tested)
         }
-        Cert2::Infeasible { lines } => judge_infeasible(alloc, case, lines.as_slice()),
+        Cert2::Infeasible { lines } => judge_infeasible(alloc, case, lines.as_slice(), tested),
         Cert2::Unbounded { piece, point, ray } => {
             judge_unbounded(alloc, case, piece, point, ray.as_slice())
         }
@@ -104,7 +123,7 @@ fn judge(alloc: Global, case: &Case, cert: &AnyCert) -> Result<Verdict, CheckFau
 {
     match cert {
         AnyCert::One(cert) => check(alloc, case, cert),
-        AnyCert::Two(cert) => judge_two(alloc, case, cert),
+        AnyCert::Two(cert) => judge_two(alloc, case, cert, &[]),
     }
 }
 

@@ -1,7 +1,8 @@
 //! What the lines before one say.
 ghost use Rattle.std.specs.Prelude.{◌≡◌, ◌↔◌, ◌<◌, ◌≤◌, ◌-◌, ◌∷◌, [], All, IfSome, IsTrue, MatchOption, OnOk, Some, false, length, slice_get, slice_index_or};
-ghost use Rattle.cert2_text.specs.Wholes.{dropped_in};
-ghost use Rattle.cert2_check.specs.Results2.{marked, with_line, with_list, with_no_good};
+ghost use Rattle.cert2_text.specs.Wholes.{dropped_in, list_in};
+ghost use Rattle.cert2_check.specs.Acceptance2.{IsListed};
+ghost use Rattle.cert2_check.specs.Results2.{marked, named_list, with_line, with_list, with_lists, with_no_good};
 
 use crate::merge::Term;
 use cert2_text::Cert2Line;
@@ -40,13 +41,23 @@ impl NoGoods for Earlier<'_> {
     }
 }
 
-// Whether a flag is set; there is none beyond the last.
-fn is_marked(flags: &[bool], number: u64) -> bool
+/// Whether a flag is set; there is none beyond the last.
+pub fn is_marked(flags: &[bool], number: u64) -> bool
     ensures { result ≡ slice_index_or flags.now number false }
 {
     match flags.get(number as usize) {
         Some(flag) => *flag,
         None => false,
+    }
+}
+
+// The list that the line names.
+fn list_of(line: &Cert2Line) -> Option<u64>
+    ensures { result ≡ named_list line.now }
+{
+    match line {
+        Cert2Line::Ray { list, .. } | Cert2Line::Point { list, .. } => *list,
+        Cert2Line::Shared { .. } | Cert2Line::Derived { .. } | Cert2Line::Forget { .. } => None,
     }
 }
 
@@ -78,6 +89,16 @@ impl<'a> Earlier<'a> {
     {
         let list = self.lists.get(number as usize)?;
         Some(*list)
+    }
+
+    /// Whether the list that the line names, if it names one, is there.
+    pub fn has_list_of(&self, line: &Cert2Line) -> bool
+        ensures { IsTrue result ↔ IsListed self.now.lists (named_list line.now) }
+    {
+        match list_of(line) {
+            Some(number) => number < self.lists.len() as u64,
+            None => true,
+        }
     }
 
     fn is_kept(&self, number: u64) -> bool
@@ -135,12 +156,26 @@ impl<'a> Earlier<'a> {
         Ok(())
     }
 
-    fn take_no_good(&mut self, no_good: &'a NoGood) -> Result<(), AllocError>
+    /// Takes the no-good of one line more.
+    pub fn take_no_good(&mut self, no_good: &'a NoGood) -> Result<(), AllocError>
         ensures { OnOk result (self.new ≡ with_no_good self.old no_good.now) }
     {
         self.no_goods.push(no_good)?;
         self.dropped.push(false)?;
         Ok(())
+    }
+
+    /// Takes the list of one line more, and nothing else.
+    pub fn take_list_in(&mut self, line: &'a Cert2Line) -> Result<(), AllocError>
+        ensures { OnOk result (self.new ≡ with_lists self.old (list_in line.now)) }
+    {
+        match line {
+            Cert2Line::Shared { mult } => self.take_list(mult.as_slice()),
+            Cert2Line::Ray { .. }
+            | Cert2Line::Point { .. }
+            | Cert2Line::Derived { .. }
+            | Cert2Line::Forget { .. } => Ok(()),
+        }
     }
 
     /// Takes one line more. What it drops has to be there.

@@ -1,14 +1,14 @@
 //! The test of one line, over what the lines before it say.
-ghost use Rattle.std.specs.Prelude.{◌≡◌, ◌↔◌, ◌≤ℤ◌, All, IfOk, IsTrue, None, Some, [], pos};
+ghost use Rattle.std.specs.Prelude.{◌≡◌, ◌↔◌, ◌≤ℤ◌, ◌++◌, All, IfOk, IsTrue, List, None, Some, [], pos, true};
 ghost use Rattle.lp_base.specs.Ascending.{ascends_by, number_of};
 ghost use Rattle.derivation.specs.HintRuns.{NamesBelow};
 ghost use Rattle.cert_text.specs.declared.cert.CertLine.TheVariants as form1;
 ghost use Rattle.cert_check.specs.Acceptance.{NoGoodFails};
 ghost use Rattle.cert_check.specs.Results.{Finds, IsOverPositive};
 ghost use Rattle.cert2_text.specs.Certs2.{IsLine2};
-ghost use Rattle.cert2_text.specs.Wholes.{Said as SaidBefore, all_terms};
+ghost use Rattle.cert2_text.specs.Wholes.{Said as SaidBefore, Terms, all_terms};
 ghost use Rattle.cert2_check.specs.Acceptance2.{CutFails2, HintsPass2, Line2Fails, MayDrop, PointFails2};
-ghost use Rattle.cert2_check.specs.Results2.{AreGood, Shows};
+ghost use Rattle.cert2_check.specs.Results2.{AreGood, CutPasses, Shows};
 
 use crate::earlier::Earlier;
 use crate::merge::{Term, merged};
@@ -22,8 +22,8 @@ use lpcc_case::{Case, MOST_PAIRS, names_pairs};
 use nogoods::NoGood;
 use std::alloc::{AllocError, Global};
 
-// Why a ray cut fails, given with all its multipliers.
-fn whole_ray_fault(case: &Case, ng: &NoGood, mult: &[Term]) -> Option<NoWhy>
+/// Why a ray cut fails, given with all its multipliers.
+pub fn whole_ray_fault(case: &Case, ng: &NoGood, mult: &[Term]) -> Option<NoWhy>
     ensures { Finds (NoGoodFails case.now None [] (form1.Ray ng.now mult.now)) result }
 {
     match check_ray(case, ng, mult) {
@@ -156,4 +156,25 @@ pub fn line_fault(
         Cert2Line::Forget { lines } if may_drop(earlier, lines) => Ok(None),
         Cert2Line::Forget { .. } => Ok(Some(NoWhy::DropFails)),
     }
+}
+
+/// The same of a line that is known to be a cut which passes over more lists, where it is marked so.
+pub fn line_fault_known(
+    alloc: Global,
+    case: &Case,
+    value: Option<(i128, i64)>,
+    earlier: &Earlier,
+    line: &Cert2Line,
+    tested: bool,
+) -> Result<Option<NoWhy>, AllocError>
+    requires positive { IsOverPositive value }
+    requires good { AreGood earlier.now }
+    requires form { IsLine2 line.now }
+    requires tested { tested ≡ true → (more : List Terms) × CutPasses case.now value (earlier.now.lists ++ more) line.now }
+    ensures { IfOk result (λ found. (said : SaidBefore) → Shows earlier.now said → Finds (Line2Fails case.now value said line.now) found) }
+{
+    if tested && earlier.has_list_of(line) {
+        return Ok(None);
+    }
+    line_fault(alloc, case, value, earlier, line)
 }

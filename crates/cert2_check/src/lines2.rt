@@ -4,10 +4,10 @@ ghost use Rattle.cert_check.specs.declared.accept.NoWhy.{NoWhy as Reason};
 ghost use Rattle.cert_check.specs.Results.{IsOverPositive, NamesFirst};
 ghost use Rattle.cert2_text.specs.Certs2.{IsLine2};
 ghost use Rattle.cert2_check.specs.Acceptance2.{Lines2Fail};
-ghost use Rattle.cert2_check.specs.Results2.{FindsFirst2};
+ghost use Rattle.cert2_check.specs.Results2.{AreTested, FindsFirst2};
 
-use crate::earlier::Earlier;
-use crate::line2::line_fault;
+use crate::earlier::{Earlier, is_marked};
+use crate::line2::line_fault_known;
 use cert_check::{CheckFault, NoWhy};
 use cert2_text::Cert2Line;
 use lpcc_case::Case;
@@ -25,14 +25,17 @@ fn first_failing(
     case: &Case,
     value: Option<(i128, i64)>,
     lines: &[Cert2Line],
+    tested: &[bool],
 ) -> Result<Found, AllocError>
     requires positive { IsOverPositive value }
     requires form { All IsLine2 lines.now }
+    requires tested { AreTested case.now value lines.now tested.now }
     ensures { IfOk result (FindsFirst2 case.now value lines.now) }
 {
     let mut earlier = Earlier::new(alloc);
     for (at, line) in lines.iter().enumerate() {
-        if let Some(why) = line_fault(alloc, case, value, &earlier, line)? {
+        let known = is_marked(tested, at as u64);
+        if let Some(why) = line_fault_known(alloc, case, value, &earlier, line, known)? {
             return Ok(Found::Fails(at, why));
         }
         earlier.take(line)?;
@@ -41,21 +44,23 @@ fn first_failing(
 }
 
 /// Judges the lines, which stand from content line `first` on, and the last line behind them, over a
-/// value `z / d` that is claimed or none.
+/// value `z / d` that is claimed or none. Cuts that are marked were tested before.
 pub fn judge_lines(
     alloc: Global,
     case: &Case,
     value: Option<(i128, i64)>,
     lines: &[Cert2Line],
+    tested: &[bool],
     first: u64,
 ) -> Result<(), CheckFault>
     requires positive { IsOverPositive value }
     requires form { All IsLine2 lines.now }
+    requires tested { AreTested case.now value lines.now tested.now }
     requires small { first < 10 }
     ensures passed { IfOk result (λ done. (n : ℕ) (why : Reason) → Lines2Fail case.now value lines.now first n why → ⊥) }
     ensures refused { IfErr result (NamesFirst (Lines2Fail case.now value lines.now first)) }
 {
-    match first_failing(alloc, case, value, lines)? {
+    match first_failing(alloc, case, value, lines, tested)? {
         Found::Fails(at, why) => Err(CheckFault::No {
             line: first + at as u64,
             why,

@@ -159,6 +159,12 @@ not_both text (One c) line why s (inr f) = one.not_both text c line why s f.1
 not_both text (Two c) line why s (inl f) = apart c (line, why) (sym (spelled_is_read text c s) ∙ failed_is_refused text line why f.0 f.1)
 not_both text (Two c) line why s (inr f) = both (is_two text) (spelled_is_two text c s) f.0
 
+pub one_fault : (text : List ℕ) (m n : ℕ) (v w : CertWhy) → FailsAny text m v → FailsAny text n w → (m ≡ n) × (v ≡ w)
+one_fault text m n v w (inl f) (inl g) = same_fault m n v w (sym (fault_found fault2_of text m v f.1) ∙ fault_found fault2_of text n w g.1)
+one_fault text m n v w (inl f) (inr g) = absurd (both (is_two text) f.0 g.0)
+one_fault text m n v w (inr f) (inl g) = absurd (both (is_two text) g.0 f.0)
+one_fault text m n v w (inr f) (inr g) = one.one_fault text m n v w f.1 g.1
+
 abbrev OneOfBoth : List ℕ → Type 0
 OneOfBoth text = ((x : AnyCert) × SpellsAny text x) ⊎ ((line : ℕ) × (why : CertWhy) × FailsAny text line why)
 

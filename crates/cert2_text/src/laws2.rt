@@ -12,6 +12,12 @@ pub fn a_text_spells_one()
     ensures { (text : List ℕ) (one other : Certificate) → SpellsAny text one → SpellsAny text other → one ≡ other }
 {}
 
+/// A text has at most one first fault.
+pub fn a_text_has_one_first_fault()
+    ensures { (text : List ℕ) (m n : ℕ) (one other : CertWhy) →
+        FailsAny text m one → FailsAny text n other → (m ≡ n) × (one ≡ other) }
+{}
+
 /// A text that spells a certificate has no fault.
 pub fn what_is_spelled_does_not_fail()
     ensures { (text : List ℕ) (cert : Certificate) (line : ℕ) (why : CertWhy) →

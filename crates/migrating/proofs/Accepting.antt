@@ -57,7 +57,7 @@ hints_inside earlier assumed (h ∷ hints) e =
     by_left more (c ∷ []) e = more (other c ∷ assumed) (and_parts (not (is_assumed assumed (other c))) (closes earlier (other c ∷ assumed) hints) e).1
     by_left more (c ∷ d ∷ cs) e = absurd cc
 
-named_has : (P : ℕ → Type 0) (hints : List ℕ) (h : ℕ) → All P hints → names_hint hints h ≡ true → P h
+pub named_has : (P : ℕ → Type 0) (hints : List ℕ) (h : ℕ) → All P hints → names_hint hints h ≡ true → P h
 named_has P [] h all e = absurd cc
 named_has P (k ∷ hints) h all e = by_test (λ f. named_has P hints h (All-tail P k hints all) f) (eqb k h) refl e
   where
@@ -103,10 +103,10 @@ abbrev Done : List ℕ → List CertLine → Type 0
 Done dropped ys = (h : ℕ) → is_dropped dropped h ≡ true → list_any (hints_at h) ys ≡ false
 
 -- what is dropped behind a derived line
-abbrev IsLast : List ℕ → List CertLine → ℕ → Type 0
+abbrev pub IsLast : List ℕ → List CertLine → ℕ → Type 0
 IsLast hints later h = (names_hint hints h ≡ true) × (list_any (hints_at h) later ≡ false)
 
-last_are : (count : ℕ) (hints : List ℕ) (later : List CertLine) → All (IsLast hints later) (last_named count hints later)
+pub last_are : (count : ℕ) (hints : List ℕ) (later : List CertLine) → All (IsLast hints later) (last_named count hints later)
 last_are count hints later k d inside =
     let test : ℕ → Bool = λ h. names_hint hints h && not (list_any (hints_at h) later) in
     let ds = filter test (range_with_len 0 count) in

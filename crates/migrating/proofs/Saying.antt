@@ -21,7 +21,7 @@ use Rattle.migrating.specs.Migration.{same_number, same_terms, is_shared, has_li
 
 -- ---- equal multipliers
 
-same_number_is : (x y : ℤ) → same_number x y ≡ true → x ≡ y
+pub same_number_is : (x y : ℤ) → same_number x y ≡ true → x ≡ y
 same_number_is (pos m) (pos n) e = ap pos (eqb-true m n e)
 same_number_is (pos m) (negsuc n) e = absurd cc
 same_number_is (negsuc m) (pos n) e = absurd cc

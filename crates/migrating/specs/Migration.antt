@@ -11,6 +11,7 @@ use Rattle.cert2_text.specs.declared.cert2.Cert2.TheVariants.{Optimal, Infeasibl
 use Rattle.cert2_text.specs.declared.cert2.Cert2Line.{Cert2Line}
 use Rattle.cert2_text.specs.declared.cert2.Cert2Line.TheVariants.{Shared, Ray, Point, Derived, Forget}
 use Rattle.cert2_text.specs.Wholes.{Terms}
+use Rattle.migrating.specs.declared.lists.TheConstants.{LEAST_SHARED}
 
 -- ---- equal multipliers
 
@@ -34,9 +35,9 @@ mult_in (line.Ray ng mult) = mult ∷ []
 mult_in (line.Point ng e mult) = mult ∷ []
 mult_in (line.Derived ng hints) = []
 
--- at least four terms, which stand whole in at least two cuts of the certificate
+-- enough terms, which stand whole in at least two cuts of the certificate
 abbrev pub is_shared : List CertLine → Terms → Bool
-is_shared all mult = nat_le 4 (length mult) && nat_le 2 (length (filter (same_terms mult) (flat_map mult_in all)))
+is_shared all mult = nat_le LEAST_SHARED (length mult) && nat_le 2 (length (filter (same_terms mult) (flat_map mult_in all)))
 
 abbrev pub has_list : List Terms → Terms → Bool
 has_list lists mult = list_any (same_terms mult) lists

@@ -1,4 +1,4 @@
-use Rattle.std.proofs.Common.{subst}
+use Rattle.std.proofs.Common.{subst, sym}
 use Rattle.std.proofs.lemmas.Int.{to_z-of_z}
 use Rattle.std.proofs.lemmas.Result.{err_from_is_err_and}
 use mir.Syntax.{w128}
@@ -6,9 +6,15 @@ use Rattle.lp_base.proofs.Machine.{narrow_again}
 use Rattle.cert_check.specs.Results.{NamesFirst}
 use Rattle.cert_check.proofs.Judged.{value_again}
 use Rattle.cert2_check.specs.Acceptance2.{FrontFails}
-use Rattle.cert2_check.specs.Results2.{FrontPasses}
+use Rattle.cert2_check.specs.Results2.{AreTested, FrontPasses}
 use Rattle.cert2_check.proofs.Judging2.{front_refused, lines_refused, optimal_accepted}
 use Rattle.cert2_check.proofs.accept2.judge_optimal.Goals as goal
+
+pub judge_lines-requires-clause-tested : goal.judge_lines-requires-clause-tested
+judge_lines-requires-clause-tested c =
+    let line = c.args.line.now in
+    subst (λ w. AreTested c.args.case.now w c.args.lines.now c.args.tested.now)
+    (sym (value_again c.args.z line.d (to_z-of_z w128 c.args.z c.ranges.z) (narrow_again line.d c.requires.point.narrow))) c.requires.tested
 
 pub returns-in_err-value-clause-refused : goal.returns-in_err-value-clause-refused
 returns-in_err-value-clause-refused c =

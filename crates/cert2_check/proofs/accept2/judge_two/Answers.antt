@@ -1,5 +1,13 @@
+use Rattle.std.proofs.Common.{rules}
+use Rattle.std.proofs.lemmas.Int.{to_z-of_z}
+use mir.Syntax.{w128}
+use Rattle.cert2_check.proofs.Tested.{optimal_tested}
 use Rattle.cert2_check.proofs.Judging2.{unbounded_accepted, unbounded_refused}
 use Rattle.cert2_check.proofs.accept2.judge_two.Goals as goal
+
+pub judge_optimal-requires-clause-tested : goal.judge_optimal-requires-clause-tested
+judge_optimal-requires-clause-tested c =
+    optimal_tested c.args.case.now c.args.cert.now c.args.tested.now c.in-Optimal.point c.in-Optimal.z _ c.in-Optimal.lines c.as_slice.result.now c.in-Optimal.is c.as_slice.ensures (to_z-of_z w128 c.in-Optimal.z (search rules)) c.requires.tested
 
 pub returns-in-Unbounded-clause-accepted : goal.returns-in-Unbounded-clause-accepted
 returns-in-Unbounded-clause-accepted c =

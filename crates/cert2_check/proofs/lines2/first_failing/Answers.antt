@@ -3,7 +3,13 @@ use Rattle.cert2_text.specs.Wholes.{said_by}
 use Rattle.cert2_check.proofs.Faulting.{dropped_inside}
 use Rattle.cert2_check.proofs.Showing.{shows_next, good_next, form_at}
 use Rattle.cert2_check.proofs.Judging2.{found_at, none_here, first_more}
+use Rattle.cert2_check.proofs.Tested.{tested_at}
 use Rattle.cert2_check.proofs.lines2.first_failing.Goals as goal
+
+pub line_fault_known-requires-clause-tested : goal.line_fault_known-requires-clause-tested
+line_fault_known-requires-clause-tested c marked =
+    tested_at c.args.case.now c.args.value c.args.lines.now c.args.tested.now c.loop-at.at c.loop-at.earlier c.index-lines-at.result c.is_marked-known.result c.loop-at-test.true c.index-lines-at.is c.loop-at.invariant.1 c.requires.tested
+    c.is_marked-known.ensures marked
 
 pub returns-in-Some : goal.returns-in-Some
 returns-in-Some c =
