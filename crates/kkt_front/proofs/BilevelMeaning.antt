@@ -30,21 +30,21 @@ use Rattle.kkt_front.proofs.Rows.{column_from_zero, found, least_row, most_row, 
 
 -- ---- joined lists by number
 
-get_first : {X : Type 0} (xs ys : List X) (k : ℕ) (x : X) → slice_get xs k ≡ Some x → slice_get (xs ++ ys) k ≡ Some x
+pub get_first : {X : Type 0} (xs ys : List X) (k : ℕ) (x : X) → slice_get xs k ≡ Some x → slice_get (xs ++ ys) k ≡ Some x
 get_first [] ys k x e = absurd cc
 get_first (y ∷ xs) ys zero x e = e
 get_first (y ∷ xs) ys (suc k) x e = get_first xs ys k x e
 
-get_second : {X : Type 0} (xs ys : List X) (n k : ℕ) (o : Option X) → length xs ≡ n → slice_get ys k ≡ o → slice_get (xs ++ ys) (n + k) ≡ o
+pub get_second : {X : Type 0} (xs ys : List X) (n k : ℕ) (o : Option X) → length xs ≡ n → slice_get ys k ≡ o → slice_get (xs ++ ys) (n + k) ≡ o
 get_second [] ys zero k o h e = ap (slice_get ys) (let z : 0 + k ≡ k = omega arith in z) ∙ e
 get_second [] ys (suc n) k o h e = absurd (omega (arith, h))
 get_second (y ∷ xs) ys zero k o h e = absurd (omega (arith, h))
 get_second (y ∷ xs) ys (suc n) k o h e = ap (slice_get (y ∷ xs ++ ys)) (let z : suc n + k ≡ suc (n + k) = omega arith in z) ∙ get_second xs ys n k o (omega (arith, h)) e
 
-abbrev Behind : {X : Type 0} → List X → ℕ → ℕ → X → Type 0
+abbrev pub Behind : {X : Type 0} → List X → ℕ → ℕ → X → Type 0
 Behind ys n k x = (i : ℕ) × (k ≡ n + i) × (slice_get ys i ≡ Some x)
 
-get_split : {X : Type 0} (xs ys : List X) (n k : ℕ) (x : X) → length xs ≡ n → slice_get (xs ++ ys) k ≡ Some x → (slice_get xs k ≡ Some x) ⊎ Behind ys n k x
+pub get_split : {X : Type 0} (xs ys : List X) (n k : ℕ) (x : X) → length xs ≡ n → slice_get (xs ++ ys) k ≡ Some x → (slice_get xs k ≡ Some x) ⊎ Behind ys n k x
 get_split [] ys n k x h e = inr (k, (let z : k ≡ n + k = omega (arith, h) in z), e)
 get_split (y ∷ xs) ys n zero x h e = inl e
 get_split (y ∷ xs) ys zero (suc k) x h e = absurd (omega (arith, h))
@@ -53,7 +53,7 @@ get_split (y ∷ xs) ys (suc n) (suc k) x h e = elim (get_split xs ys n k x (ome
   | inr second ↦ inr (second.0, (let z : suc k ≡ suc n + second.0 = omega (arith, second.1) in z), second.2)
 ]
 
-sized : {X : Type 0} (f : ℕ → X) (n : ℕ) → length (listed f n) ≡ n
+pub sized : {X : Type 0} (f : ℕ → X) (n : ℕ) → length (listed f n) ≡ n
 sized f n = length-map-range_with_len f 0 n
 
 -- ---- the entries of each row
@@ -76,7 +76,7 @@ low_block b j = block j (1 + ups b) (λ i. coefficient_at (line_at b.low i).term
 abbrev follow_block : Bilevel → ℕ → List Entry
 follow_block b i = block (b.nx + b.ny + i) (1 + ups b + lows b) (λ k. coefficient_at (line_at b.low i).terms (b.nx + k)) b.ny
 
-all_whole : (b : Bilevel) (bounds end : ℕ) → AreWhole (bilevel_deck b bounds end).entries
+pub all_whole : (b : Bilevel) (bounds end : ℕ) → AreWhole (bilevel_deck b bounds end).entries
 all_whole b bounds end =
     whole_append (variables b) (multipliers b)
     (whole_all (variable_entries b) (range_with_len 0 (b.nx + b.ny)) (λ j. (

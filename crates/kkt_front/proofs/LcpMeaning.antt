@@ -26,7 +26,7 @@ use Rattle.kkt_front.proofs.Ranges.{sum_of_terms, sum_same}
 use Rattle.kkt_front.proofs.EntrySums.{AreWhole, IsSum, behind_cost, in_own_block, in_row, in_row_all, whole_all, whole_block}
 use Rattle.kkt_front.proofs.Rows.{column_from_zero, found, from_negated, least_row, row_sum, same_negated, same_row, there}
 
-all_whole : (p : Lcp) (end : ℕ) → AreWhole (lcp_deck p end).entries
+pub all_whole : (p : Lcp) (end : ℕ) → AreWhole (lcp_deck p end).entries
 all_whole p end = whole_all (lcp_entries p) (range_with_len 0 p.size) (λ j. (refl, whole_block j 1 (λ i. coefficient_at (row_of p i) j) p.size))
 
 one_more : (i : ℕ) → 1 + i ≡ suc i

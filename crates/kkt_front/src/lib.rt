@@ -15,4 +15,5 @@ pub use laws::{
     a_deck_is_met_by_the_solutions, a_deck_is_met_with_multipliers, y_with_multipliers_is_least,
 };
 pub use lcp::lcp_deck;
+pub use parts::coefficient_at;
 pub use points::back;
