@@ -15,11 +15,12 @@ use Rattle.desk.specs.declared.answer.Draw.{Draw}
 use Rattle.desk.specs.declared.answer.Draw.TheVariants as draw
 use Rattle.desk.specs.Tickets.{Holds}
 
--- the desk part with its case and options, the shelf, and whether a worker has abandoned the desk
+-- the desk part with its case and options, the shelf, whether a worker has abandoned the desk, and whether one has noted that its search over the pairs has ended refuted
 pub record DeskView : Type 0 where
   pub run : Standing
   pub shelf : ShelfView
   pub abandoned : Bool
+  pub refuted : Bool
 
 -- nothing has happened; the shelf has a lane for each worker
 pub record IsNewDesk (a : Instance) (o : Options) (d : DeskView) : Type 0 where
@@ -27,6 +28,7 @@ pub record IsNewDesk (a : Instance) (o : Options) (d : DeskView) : Type 0 where
   pub shelf : d.shelf.case ≡ a
   pub lanes : length d.shelf.pages ≡ o.workers
   pub present : d.abandoned ≡ false
+  pub nothing_noted : d.refuted ≡ false
 
 -- the worker is one of the desk's, the reach fits the shelf, and of the tickets in flight the worker holds none, or just this one
 pub record Fits (d : DeskView) (worker : ℕ) (r : ReachView) (ticket : Option Ticket) : Type 0 where
@@ -48,6 +50,7 @@ pub record DrawsFrom (worker : ℕ) (old new : DeskView) (answer : PartDraw) : T
   pub run : DrawsOn worker old.run new.run answer
   pub shelf : new.shelf ≡ old.shelf
   pub abandoned : new.abandoned ≡ old.abandoned
+  pub refuted : new.refuted ≡ old.refuted
 
 -- a draw with this answer; at Left nothing has changed
 abbrev pub Draws : ℕ → DeskView → DeskView → Draw → Type 0
@@ -62,6 +65,7 @@ pub record Learns (old new : DeskView) : Type 0 where
   pub run : LearnsOn old.run new.run
   pub shelf : new.shelf ≡ old.shelf
   pub abandoned : new.abandoned ≡ old.abandoned
+  pub refuted : new.refuted ≡ old.refuted
 
 -- a desk without a verdict is abandoned from then on
 abbrev pub abandoned_by : Option VerdictKind → DeskView → DeskView
@@ -70,3 +74,7 @@ abandoned_by (Some v) d = d
 
 abbrev pub abandoned : DeskView → DeskView
 abandoned d = abandoned_by d.run.part.verdict d
+
+-- a worker has noted that its search has ended refuted
+abbrev pub noted : DeskView → DeskView
+noted d = record d { refuted = true }

@@ -48,3 +48,4 @@ pub record Settles (t : Ticket) (what : Outcome) (old new : DeskView) : Type 0 w
   pub run : SettlesOn t what old.run new.run
   pub shelf : new.shelf ≡ old.shelf
   pub abandoned : new.abandoned ≡ old.abandoned
+  pub refuted : new.refuted ≡ old.refuted

@@ -7,7 +7,7 @@ ghost use Rattle.cut_pool.specs.Reaches.{ReachView};
 ghost use Rattle.cut_pool.specs.Shelves.{HasAll, IsNewReach, Readied, SameButRow};
 ghost use Rattle.cut_pool.specs.Shelves as shelves;
 ghost use Rattle.desk_part.specs.DeskParts.{EndingKeepsForm, IsBack, IsEndingOfRecord};
-ghost use Rattle.desk.specs.Desks.{DeskView, Draws, Fits, HasEnding, IsNewDesk, Learns, abandoned};
+ghost use Rattle.desk.specs.Desks.{DeskView, Draws, Fits, HasEnding, IsNewDesk, Learns, abandoned, noted};
 ghost use Rattle.desk.specs.Settling.{IsFromReach, Settles};
 
 use crate::Draw;
@@ -20,14 +20,16 @@ use std::alloc::{AllocError, Global};
 use std::marker::Model;
 use std::sync::Arc;
 
-/// The shared state of a run. Contracts see the desk part with its case and options, the shelf, and
-/// whether a worker has abandoned the desk. The type keeps that some record leads to the part, so
-/// that this is known of a desk that comes out of a lock.
+/// The shared state of a run. Contracts see the desk part with its case and options, the shelf,
+/// whether a worker has abandoned the desk, and whether one has noted that its search over the pairs
+/// has ended refuted. The type keeps that some record leads to the part, so that this is known of a
+/// desk that comes out of a lock.
 #[derive(Drop)]
 pub struct Desk {
     run: RecordedPart,
     shelf: Shelf,
     abandoned: bool,
+    refuted: bool,
 }
 
 impl Model for Desk {
@@ -36,7 +38,7 @@ impl Model for Desk {
 
     ghost Value = { DeskView };
 
-    ghost view = { λ d. record { run = d.run; shelf = d.shelf; abandoned = d.abandoned } };
+    ghost view = { λ d. record { run = d.run; shelf = d.shelf; abandoned = d.abandoned; refuted = d.refuted } };
 
     ghost invariant = { λ d. (d.shelf.case ≡ d.run.case_of) × (length d.shelf.pages ≡ d.run.options.workers) };
 }
@@ -59,6 +61,7 @@ impl Desk {
             run: RecordedPart::over(alloc, shared, options),
             shelf,
             abandoned: false,
+            refuted: false,
         };
         Ok((desk, reaches))
     }
@@ -70,7 +73,7 @@ impl Desk {
         ensures readied { Readied reach.old reach.new }
         ensures ok { OnOk result ((1 ≤ reach.new.spare) × HasAll self.new.shelf reach.new) }
         ensures rest { SameButRow self.old.shelf self.new.shelf worker }
-        ensures same { (self.new.run ≡ self.old.run) × (self.new.abandoned ≡ self.old.abandoned) }
+        ensures same { (self.new.run ≡ self.old.run) × (self.new.abandoned ≡ self.old.abandoned) × (self.new.refuted ≡ self.old.refuted) }
     {
         self.shelf.ready(alloc, worker, reach)
     }
@@ -157,6 +160,21 @@ impl Desk {
         if !self.run.is_concluded() {
             self.abandoned = true;
         }
+    }
+
+    /// Notes that a worker's search over the pairs has ended refuted, so that the others need not
+    /// search on. It is a hint, and nothing rests on it. It takes no memory.
+    pub fn note_refuted(&mut self)
+        ensures { self.new ≡ noted self.old }
+    {
+        self.refuted = true;
+    }
+
+    /// Whether a worker has noted that its search over the pairs has ended refuted.
+    pub fn is_refuted(&self) -> bool
+        ensures { result ≡ self.now.refuted }
+    {
+        self.refuted
     }
 
     /// The ending of the record, which is never want of memory. Without memory the desk is spent.

@@ -25,7 +25,7 @@ fn settle_piece(
     ensures waits { OnOk result (IsWaiting case.now options.now desk.new) }
     ensures drawn { OnOk result (desk.new.part.drawn ≡ desk.old.part.drawn) }
 {
-    let outcome = outcome_of(alloc, case, options, known, &ticket.piece)?;
+    let outcome = outcome_of(alloc, case, options, known, &ticket)?;
     match desk.settle(alloc, ticket, outcome) {
         Ok(()) => Ok(()),
         Err(_) => Err(AllocError),

@@ -1,5 +1,5 @@
 //! What is known of a case while its pieces are settled.
-ghost use Rattle.std.specs.Prelude.{◌≡◌, All, IfOk, IfSome, Some};
+ghost use Rattle.std.specs.Prelude.{◌≡◌, IfOk, IfSome, Some};
 ghost use Rattle.std.specs.Option.{option_copied};
 ghost use Rattle.lpcc_case.specs.Instance.{Instance};
 ghost use Rattle.cuts.specs.Cuts.{Passes};
@@ -9,24 +9,25 @@ ghost use Rattle.own_order.specs.Searching.{IsAgainst};
 ghost use Rattle.play.specs.Points.{IsBest, IsCandidate, lowered};
 ghost use Rattle.settling.specs.Known.{IsTrueKnowledge, nothing_known};
 
-use crate::copies::{copy_best, copy_cut};
-use crate::searching::{add_known, begun, copies_at, gone_on, push_known};
+use crate::copies::copy_best;
+use crate::searching::{add_known, begun, copy_at, gone_on, push_known};
 use cuts::Cut;
 use lpcc_case::{Case, Point, lower};
 use nogoods::Piece;
 use own_order::{PairSearch, Stop};
+use play::Ticket;
 use shrink::{KnownPoints, Shrunk, shrink_with};
 use std::alloc::{AllocError, Global};
 use std::marker::Model;
 
-/// So many pieces are settled before the search over the pairs begins. Most small decks need no
-/// more.
+/// So many pieces of a run are settled before a search over the pairs begins, by all its workers
+/// together. Most small decks need no more.
 pub const PLAIN_PIECES: u64 = 8;
 
 /// What is known of a case while its pieces are settled: the incumbent, points at which choices are
-/// loose, and a search over the pairs in an order of its own, which begins when some pieces have
-/// been settled. Contracts see the incumbent, the cuts that wait for the search, and what the search
-/// has found.
+/// loose, and a search over the pairs in an order of its own, which begins when some pieces of the
+/// run have been drawn. Contracts see the incumbent, the cuts that wait for the search, and what the
+/// search has found.
 #[derive(Drop)]
 pub struct Knowledge {
     alloc: Global,
@@ -36,11 +37,12 @@ pub struct Knowledge {
     points: KnownPoints,
     cuts: Vec<Cut>,
     search: Option<PairSearch>,
-    /// The pieces that were asked about.
-    pieces: u64,
     /// The conflicts that the search was allowed.
     conflicts: u64,
+    /// Whether the search goes on no more, and whether it has come to an end at which its clauses
+    /// bar every piece.
     is_over: bool,
+    is_refuted: bool,
     /// The places of the cuts that were found and not taken yet.
     fresh: Vec<usize>,
 }
@@ -84,9 +86,9 @@ impl Knowledge {
             points: KnownPoints::new(alloc),
             cuts: Vec::new(alloc),
             search: None,
-            pieces: 0,
             conflicts: 0,
             is_over: false,
+            is_refuted: false,
             fresh: Vec::new(alloc),
         }
     }
@@ -142,7 +144,7 @@ impl Knowledge {
         if self.search.is_some() {
             return Ok(());
         }
-        let copy = copy_cut(self.alloc, cut)?;
+        let copy = cut.copy(self.alloc)?;
         push_known(case, &mut self.cuts, copy)
     }
 
@@ -178,13 +180,28 @@ impl Knowledge {
         let Some(cut) = search.cut_against(case, piece, self.incumbent.as_ref()) else {
             return Ok(None);
         };
-        Ok(Some(copy_cut(self.alloc, cut)?))
+        Ok(Some(cut.copy(self.alloc)?))
     }
 
-    /// Whether the search has not begun and will do so at the next piece, or has begun and has not
-    /// come to its end.
-    pub fn is_searching(&self) -> bool {
-        self.pieces >= PLAIN_PIECES && !self.is_over
+    /// Whether there is something to search or to be taken for a drawn piece. The first pieces of a
+    /// run are settled without a search.
+    pub fn is_searching(&self, ticket: &Ticket) -> bool {
+        ticket.number >= PLAIN_PIECES && !(self.is_over && self.fresh.is_empty())
+    }
+
+    /// Whether the search has ended refuted, and all that it found was taken. Nothing is claimed of
+    /// it.
+    pub fn is_refuted(&self) -> bool {
+        self.is_refuted && self.fresh.is_empty()
+    }
+
+    /// Goes on with the search no more, and leaves what was found and not taken. What is known serves
+    /// as before.
+    pub fn leave_search(&mut self)
+        ensures { self.new ≡ self.old }
+    {
+        self.is_over = true;
+        self.fresh.clear();
     }
 
     /// Begins the search where it has not begun.
@@ -213,6 +230,7 @@ impl Knowledge {
         match gone_on(self.alloc, case, search, incumbent, conflicts, found) {
             Ok(stop) => {
                 self.is_over = stop != Stop::Conflicts;
+                self.is_refuted = stop == Stop::Refuted;
                 Ok(())
             },
             Err(fault) => Err(fault),
@@ -220,7 +238,8 @@ impl Knowledge {
     }
 
     /// Begins the search where it has not begun, and goes on with it until it has met as many
-    /// conflicts, or comes to its end. The best point that it has becomes the incumbent.
+    /// conflicts, or comes to its end. The best point that it has becomes the incumbent. A search
+    /// that is over does not go on.
     ///
     /// # Errors
     ///
@@ -229,6 +248,9 @@ impl Knowledge {
         requires known { IsTrueKnowledge case.now self.old }
         ensures known { IsTrueKnowledge case.now self.new }
     {
+        if self.is_over {
+            return Ok(());
+        }
         self.begin(case)?;
         self.conflicts = self.conflicts.saturating_add(conflicts);
         self.go_on(case, conflicts)?;
@@ -251,36 +273,44 @@ impl Knowledge {
         Ok(())
     }
 
-    /// Counts a piece, and searches where so many were settled without a search. In all the search
-    /// meets at most as many conflicts as pieces may be drawn.
-    pub(crate) fn prepare(&mut self, case: &Case, most: u64) -> Result<(), AllocError>
+    /// Searches to the end before a piece is settled, unless it is one of the first pieces of the
+    /// run. In all the search meets at most as many conflicts as pieces may be drawn.
+    pub(crate) fn prepare(
+        &mut self,
+        case: &Case,
+        ticket: &Ticket,
+        most: u64,
+    ) -> Result<(), AllocError>
         requires known { IsTrueKnowledge case.now self.old }
         ensures known { IsTrueKnowledge case.now self.new }
     {
-        if self.is_searching() {
-            let conflicts = most.saturating_sub(self.conflicts);
-            self.search_on(case, conflicts)?;
-            self.is_over = true;
+        if ticket.number < PLAIN_PIECES {
+            return Ok(());
         }
-        self.pieces = self.pieces.saturating_add(1);
+        self.begin(case)?;
+        let conflicts = most.saturating_sub(self.conflicts);
+        self.search_on(case, conflicts)?;
+        self.is_over = true;
         Ok(())
     }
 
-    /// Copies of the cuts that the search has found since they were taken last. They pass.
+    /// A copy of a cut that the search has found and that was not taken yet, the newest first. It
+    /// passes. None where all were taken.
     ///
     /// # Errors
     ///
-    /// Want of memory alone; then they are still to be taken.
-    pub fn take_found(&mut self, case: &Case) -> Result<Vec<Cut>, AllocError>
+    /// Want of memory alone.
+    pub fn take_found(&mut self, case: &Case) -> Result<Option<Cut>, AllocError>
         requires known { IsTrueKnowledge case.now self.old }
         ensures same { self.new ≡ self.old }
-        ensures passes { IfOk result (λ made. All (Passes case.now) made.items) }
+        ensures passes { IfOk result (λ made. IfSome made (Passes case.now)) }
     {
-        let mut made = Vec::new(self.alloc);
-        if let Some(search) = &self.search {
-            made = copies_at(self.alloc, case, search, self.fresh.as_slice())?;
-        }
-        self.fresh.clear();
-        Ok(made)
+        let Some(search) = &self.search else {
+            return Ok(None);
+        };
+        let Some(place) = self.fresh.pop() else {
+            return Ok(None);
+        };
+        copy_at(self.alloc, case, search, place)
     }
 }

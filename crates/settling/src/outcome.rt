@@ -17,7 +17,7 @@ use lex_simplex::{LpAnswer, solve};
 use lp_base::Sequence;
 use lpcc_case::{Case, Point};
 use nogoods::Piece;
-use play::{Options, Outcome, ShrinkMode, choices_of};
+use play::{Options, Outcome, ShrinkMode, Ticket, choices_of};
 use std::alloc::{AllocError, Global};
 
 /// The outcome by a cut as it is.
@@ -153,11 +153,11 @@ fn by_program(
     }
 }
 
-/// How the piece is to be settled: by a cut that bars it, by a direction in which the cost falls
-/// without end, or by the end of a walk without an answer. A known cut serves where one bars the
-/// piece and is active; else the program of the piece's choices is solved. When `PLAIN_PIECES`
-/// pieces have been asked about, the search over the pairs is made first, with as many conflicts as
-/// pieces may be drawn. The best point of either becomes the incumbent.
+/// How the piece of a ticket is to be settled: by a cut that bars it, by a direction in which the
+/// cost falls without end, or by the end of a walk without an answer. A known cut serves where one
+/// bars the piece and is active; else the program of the piece's choices is solved. Where
+/// `PLAIN_PIECES` pieces of the run were drawn before it, the search over the pairs is made first,
+/// with as many conflicts as pieces may be drawn. The best point of either becomes the incumbent.
 ///
 /// # Errors
 ///
@@ -167,14 +167,15 @@ pub fn outcome_of(
     case: &Case,
     options: &Options,
     known: &mut Knowledge,
-    piece: &Piece,
+    ticket: &Ticket,
 ) -> Result<Outcome, AllocError>
-    requires piece { IsPiece case.now piece.now }
+    requires piece { IsPiece case.now ticket.now.piece }
     requires known { IsTrueKnowledge case.now known.old }
     ensures known { IsTrueKnowledge case.now known.new }
-    ensures outcome { IfOk result (IsOutcomeOf case.now options.now piece.now) }
+    ensures outcome { IfOk result (IsOutcomeOf case.now options.now ticket.now.piece) }
 {
-    known.prepare(case, options.pieces)?;
+    let piece = &ticket.piece;
+    known.prepare(case, ticket, options.pieces)?;
     match known.cut_against(case, piece)? {
         Some(cut) => by_cut(alloc, case, options, known, piece, cut),
         None => by_program(alloc, case, options, known, piece),

@@ -1,11 +1,10 @@
 //! The search over the pairs, as what is known of a case has it.
-ghost use Rattle.std.specs.Prelude.{All, IfOk};
+ghost use Rattle.std.specs.Prelude.{All, IfOk, IfSome};
 ghost use Rattle.std.specs.Option.{option_copied};
 ghost use Rattle.cuts.specs.Cuts.{Passes};
 ghost use Rattle.play.specs.Points.{IsBest};
 ghost use Rattle.own_order.specs.Searching.{IsTrueOf};
 
-use crate::copies::copy_cut;
 use cuts::Cut;
 use lpcc_case::{Case, Point};
 use own_order::{PairSearch, Stop};
@@ -45,7 +44,7 @@ pub fn begun(alloc: Global, case: &Case, seed: u64, cuts: &[Cut]) -> Result<Pair
 {
     let mut search = new_search(alloc, case, seed)?;
     for cut in cuts {
-        add_known(case, &mut search, copy_cut(alloc, cut)?)?;
+        add_known(case, &mut search, cut.copy(alloc)?)?;
     }
     Ok(search)
 }
@@ -89,21 +88,18 @@ pub fn gone_on(
     Ok(stop)
 }
 
-/// Copies of the cuts at these places.
-pub fn copies_at(
+/// A copy of the cut at this place, if there is one.
+pub fn copy_at(
     alloc: Global,
     case: &Case,
     search: &PairSearch,
-    places: &[usize],
-) -> Result<Vec<Cut>, AllocError>
+    place: usize,
+) -> Result<Option<Cut>, AllocError>
     requires { IsTrueOf case.now search.now }
-    ensures { IfOk result (λ made. All (Passes case.now) made.items) }
+    ensures { IfOk result (λ made. IfSome made (Passes case.now)) }
 {
-    let mut made = Vec::new(alloc);
-    for place in places {
-        if let Some(cut) = search.cuts().get(*place) {
-            push_known(case, &mut made, copy_cut(alloc, cut)?)?;
-        }
+    match search.cuts().get(place) {
+        Some(cut) => Ok(Some(cut.copy(alloc)?)),
+        None => Ok(None),
     }
-    Ok(made)
 }

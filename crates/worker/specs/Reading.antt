@@ -1,21 +1,15 @@
 -- What a worker has read of the lanes of others, and what that says of its piece.
-use Rattle.std.specs.Prelude.{◌≡◌, ◌≢◌, ◌<◌, ◌≤◌, true, ℕ, ℤ, pos, ◌≤ℤ◌, List, length, Option, Some, None, MatchOption}
+use Rattle.std.specs.Prelude.{◌≡◌, ◌≢◌, ◌<◌, ◌≤◌, true, ℕ, List, length, Option, Some, None, MatchOption}
 use Rattle.nogoods.specs.declared.choice.Side.{Side}
 use Rattle.lpcc_case.specs.Instance.{Instance}
 use Rattle.lpcc_case.specs.declared.point.Point.{Point}
 use Rattle.cuts.specs.declared.cut.Cut.{Cut}
-use Rattle.cuts.specs.declared.cut.Cut.TheVariants as cut
 use Rattle.cut_words.specs.Words.{AreWordsOf}
 use Rattle.cut_pool.specs.Lanes.{given}
 use Rattle.cut_pool.specs.Reaches.{ReachView, lane_at}
 use Rattle.play.specs.Lawful.{MayCut}
 use Rattle.desk.specs.Settling.{IsGivenAt, IsRayCutAgainst, NoRayCutBars}
 use Rattle.worker.specs.declared.noting.Barring.{Barring}
-
--- a point cut has a positive factor on the cost
-abbrev pub HasFactor : Cut → Type 0
-HasFactor (cut.Ray ng mult) = Unit {0}
-HasFactor (cut.Point ng mult e v) = pos 1 ≤ℤ e
 
 -- another worker's cut, as it was read: it bars the piece, and is active against the best point
 pub record IsBarring (a : Instance) (piece : List Side) (best : Option Point) (r : ReachView) (b : Barring) : Type 0 where

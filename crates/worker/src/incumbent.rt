@@ -1,27 +1,13 @@
 //! What a worker offers to the best of all workers, and what it takes from there.
-ghost use Rattle.std.specs.Prelude.{◌≡◌, IsTrue};
 ghost use Rattle.best.specs.Passes.{IsPassOf};
-ghost use Rattle.play.specs.Points.{IsCandidate};
 ghost use Rattle.settling.specs.Known.{IsTrueKnowledge};
 
 use best::{Best, BestPass};
-use lpcc_case::{Case, Point, is_complementary, is_of, meets};
+use lpcc_case::{Case, Point};
+use play::is_candidate;
 use settling::Knowledge;
 use std::alloc::{AllocError, Global};
 use std::sync::Wait;
-
-/// Whether the numbers of a point are those of a feasible point of the case. It takes no memory.
-fn is_candidate(case: &Case, point: &Point) -> bool
-    ensures { IsTrue result → IsCandidate case.now point.now }
-{
-    if !is_of(case, point) {
-        return false;
-    }
-    if !meets(case, point) {
-        return false;
-    }
-    is_complementary(case, point)
-}
 
 /// Offers the best point that is known, and takes the lowest point that any worker offered. What
 /// came from there is used only after it has passed the tests of a feasible point.

@@ -3,13 +3,15 @@
 //! the worker's reach and ticket are those that it knows.
 ghost use Rattle.std.specs.Prelude.{◌≡◌, IsTrue, IfOk, OnOk, None, Some};
 ghost use Rattle.std.specs.Option.{option_copied};
-ghost use Rattle.desk.specs.Desks.{Fits};
+ghost use Rattle.desk.specs.Desks.{Fits, abandoned};
+ghost use Rattle.desk.specs.Settling.{Settles};
 ghost use Rattle.worker.specs.Turns.{IsDrawn, IsReachOf, IsReady, MaySettleBy, Takes};
 
 use cut_pool::Reach;
 use desk::{Desk, Draw};
 use lpcc_case::Case;
 use play::{Options, Outcome, Ticket};
+use settling::Knowledge;
 use std::alloc::{AllocError, Global};
 
 /// What the desk gives a worker.
@@ -41,7 +43,7 @@ fn is_known(
 }
 
 /// Readies the worker's reach, and draws.
-#[tactic(auto, using(crate::proofs::OwnLaws::readied))]
+#[tactic(auto, using(crate::proofs::OwnLaws::readied, desk::proofs::DeskLaws::done_ends, desk::proofs::DeskLaws::left_ends))]
 fn draw(
     alloc: Global,
     case: &Case,
@@ -54,18 +56,20 @@ fn draw(
     requires fits { Fits desk.old worker reach.old None }
     requires reach { IsReachOf case.now options.now worker reach.old }
     ensures reach { IsReachOf case.now options.now worker reach.new }
-    ensures turn { IfOk result (Takes case.now worker reach.new) }
+    ensures turn { IfOk result (Takes case.now worker reach.new desk.new) }
 {
     desk.ready(alloc, worker, reach)?;
     match desk.draw(alloc, worker)? {
         Draw::Piece(ticket) => Ok(Turn::Piece(ticket)),
         Draw::Pause => Ok(Turn::Pause),
-        Draw::Done | Draw::Left => Ok(Turn::Over),
+        Draw::Done => Ok(Turn::Over),
+        Draw::Left => Ok(Turn::Over),
     }
 }
 
 /// Takes what the desk gives. A worker that the desk does not know, or that has no memory, abandons
 /// it.
+#[tactic(auto, using(desk::proofs::DeskLaws::abandoned_ends))]
 pub fn take_turn(
     alloc: Global,
     case: &Case,
@@ -76,7 +80,7 @@ pub fn take_turn(
 ) -> Turn
     requires reach { IsReachOf case.now options.now worker reach.old }
     ensures reach { IsReachOf case.now options.now worker reach.new }
-    ensures turn { Takes case.now worker reach.new result }
+    ensures turn { Takes case.now worker reach.new desk.new result }
 {
     if !is_known(case, options, desk, worker, reach, None) {
         desk.abandon(None);
@@ -115,6 +119,19 @@ pub fn ready_again(
     desk.ready(alloc, ticket.worker, reach)
 }
 
+/// Tells the others through the desk where the worker's search has ended refuted and all its cuts were
+/// published, and leaves the worker's search where another has told so.
+pub fn share_end(desk: &mut Desk, known: &mut Knowledge)
+    ensures { known.new ≡ known.old }
+{
+    if known.is_refuted() {
+        desk.note_refuted();
+    }
+    if desk.is_refuted() {
+        known.leave_search();
+    }
+}
+
 /// Settles a ticket. A worker that the desk does not know, or that has no memory, abandons it with
 /// the ticket; then it is false.
 pub fn settle(
@@ -127,6 +144,8 @@ pub fn settle(
     outcome: Outcome,
 ) -> bool
     requires { MaySettleBy case.now options.now ticket reach.now outcome }
+    ensures settled { IsTrue result → Settles ticket outcome desk.old desk.new }
+    ensures left { (IsTrue result → ⊥) → desk.new ≡ abandoned desk.old }
 {
     if !is_known(case, options, desk, ticket.worker, reach, Some(&ticket)) {
         desk.abandon(Some(ticket));

@@ -72,7 +72,7 @@ fn by_own(
     ensures passes { IfOk result (CutPasses case.now) }
     ensures settles { IfOk result (λ what. (r : ReachView) → HasReadAll r ticket.now.piece → MaySettleBy case.now options.now ticket.now r what) }
 {
-    let outcome = outcome_of(alloc, case, options, known, &ticket.piece)?;
+    let outcome = outcome_of(alloc, case, options, known, ticket)?;
     if !is_own(&outcome) {
         return Err(AllocError);
     }

@@ -8,7 +8,7 @@ ghost use Rattle.worker.specs.Reading.{IsReading};
 ghost use Rattle.worker.specs.Turns.{IsReachOf, IsReady, IsSameBut};
 
 use crate::incumbent::exchange_best;
-use crate::locked::ready_again;
+use crate::locked::{ready_again, share_end};
 use crate::noting::Barring;
 use crate::publishing::publish;
 use crate::reading::read_lanes;
@@ -22,10 +22,10 @@ use std::alloc::{AllocError, Global};
 use std::sync::{Mutex, Wait};
 
 /// How many conflicts the search meets before the others are heard again.
-const SLICE: u64 = 16;
+const SLICE: u64 = 4;
 
-/// Publishes what the search has found, as far as there is room beside the cut that settles the
-/// piece.
+/// Publishes what the search has found, as far as there is room. The rest waits until the reach is
+/// readied.
 fn publish_found(
     case: &Case,
     known: &mut Knowledge,
@@ -39,11 +39,11 @@ fn publish_found(
     ensures same { IsSameBut reach.old reach.new }
     ensures length { length words.new ≡ length words.old }
 {
-    let found = known.take_found(case)?;
-    for cut in &found {
-        if reach.spare() > 1 {
-            publish(case, reach, words, cut);
-        }
+    for _ in 0..reach.spare() {
+        let Some(cut) = known.take_found(case)? else {
+            return Ok(());
+        };
+        publish(case, reach, words, &cut);
     }
     Ok(())
 }
@@ -75,7 +75,8 @@ pub fn hear<R: Wait>(
     read_lanes(rt, alloc, case, &ticket.piece, known, reach, workers, words)
 }
 
-/// Goes on with the search for one slice, offers what it found, and readies the reach.
+/// Goes on with the search for one slice, offers what it found, and readies the reach. The others
+/// are told where the search has ended refuted, and it is left where another's has.
 fn search_slice<R: Wait>(
     rt: &R,
     alloc: Global,
@@ -103,6 +104,7 @@ fn search_slice<R: Wait>(
     exchange_best(rt, alloc, case, best, pass, known)?;
     publish_found(case, known, reach, words)?;
     let mut held = desk.lock(rt);
+    share_end(&mut held, known);
     ready_again(alloc, case, options, &mut held, reach, ticket)
 }
 
@@ -136,7 +138,7 @@ pub fn search<R: Wait>(
     ensures read { OnOk result (HasCaughtUp reach.new) }
 {
     for _ in 0..options.pieces / SLICE {
-        if !known.is_searching() {
+        if !known.is_searching(ticket) {
             return Ok(None);
         }
         search_slice(

@@ -6,7 +6,7 @@ ghost use Rattle.settling.specs.Known.{IsTrueKnowledge};
 ghost use Rattle.worker.specs.Turns.{IsDrawn, IsReachOf, MaySettleBy};
 
 use crate::gate::{Gate, Mark};
-use crate::locked::{Turn, settle, take_turn};
+use crate::locked::{Turn, settle, share_end, take_turn};
 use crate::piece::outcome_for;
 use best::{Best, BestPass};
 use cut_pool::Reach;
@@ -149,6 +149,7 @@ fn take_turns<R: Wait, G: Gate>(
         let mut held = desk.lock(rt);
         match take_turn(alloc, case, options, &mut held, worker, reach) {
             Turn::Piece(ticket) => {
+                share_end(&mut held, &mut known);
                 drop(held);
                 let goes_on = do_piece(
                     rt, alloc, case, options, desk, bell, best, pass, &mut known, reach, words,
