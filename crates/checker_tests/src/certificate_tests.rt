@@ -1,7 +1,7 @@
 //! Certificates behind the three smallest decks, each with a line changed.
-use crate::command_tests::{
-    BOUNDED_DECK, CERTIFICATE, DECK, FALLING_DECK, OPTIMAL, UNBOUNDED, answers, answers_both,
-    first_lines, with_line,
+use crate::command_tests::{answers, answers_both};
+use crate::texts::{
+    BOUNDED_DECK, CERTIFICATE, DECK, FALLING_DECK, OPTIMAL, UNBOUNDED, first_lines, with_line,
 };
 use std::alloc::Global;
 use std::test::Fail;
@@ -177,15 +177,10 @@ fn ends(rt: HostRuntime) -> Result<(), Fail> {
     Ok(())
 }
 
-/// The first lines of the smallest deck, and of its certificate.
+/// The first lines of the smallest certificate.
 #[test]
 fn every_first_lines(rt: HostRuntime) -> Result<(), Fail> {
     let alloc = rt.alloc();
-    for count in 0..13 {
-        let front = first_lines(alloc, DECK, count)?;
-        let line = format!(in alloc; "deck: line {}: NotClosed", count + 1)?;
-        assert!(rt; answers(alloc, front.as_bytes(), line.as_str())?, "{count}");
-    }
     assert!(rt; answers(alloc, DECK.as_bytes(), "no line 1 BadHead")?);
     for count in 1..6 {
         let front = first_lines(alloc, CERTIFICATE, count)?;

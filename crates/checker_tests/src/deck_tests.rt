@@ -1,36 +1,7 @@
 //! Decks that are refused, each with the line and the reason, and decks that are read.
-use crate::command_tests::{CERTIFICATE, DECK, answers, answers_both, with_line};
+use crate::command_tests::{answers, answers_both};
 use std::alloc::Global;
 use std::test::Fail;
-
-/// The smallest deck with a line changed.
-#[test]
-fn changed_lines(rt: HostRuntime) -> Result<(), Fail> {
-    let rows = [
-        (2, "rows", "deck: line 2: UnknownSection"),
-        (2, "SOS1", "deck: line 2: LeftOutSection"),
-        (3, " G r0", "deck: line 6: NoObjective"),
-        (4, " Q r1", "deck: line 4: RowLetter"),
-        (5, " G r1", "deck: line 5: NameTwice"),
-        (5, " G r1 x", "deck: line 5: FieldCount"),
-        (8, " y r3 1", "deck: line 8: UnknownName"),
-        (8, " y r2 1 r2 2", "deck: line 8: EntryTwice"),
-        (8, " y r2 1e36", "deck: line 8: NumberWide"),
-        (8, " m 'MARKER' 'INTORG'", "deck: line 8: IntegerMarker"),
-        (11, "BOUNDS\n BV bnd x", "deck: line 12: IntegerMarker"),
-        (12, " p1 COL x ROW cost", "deck: line 12: PairKind"),
-        (12, " p1 COL x COL r1", "deck: line 12: UnknownName"),
-        (13, "ENDATA x", "deck: line 13: FieldCount"),
-    ];
-    for (number, new, line) in rows {
-        let deck = with_line(rt.alloc(), DECK, number, new)?;
-        assert!(rt;
-            answers_both(rt.alloc(), deck.as_str(), CERTIFICATE, line)?,
-            "{new}"
-        );
-    }
-    Ok(())
-}
 
 /// Lines, fields and the order of sections.
 #[test]
@@ -68,6 +39,10 @@ fn sections(rt: HostRuntime) -> Result<(), Fail> {
         (
             "ROWS\n N c\nCOLUMNS\n x c 1\nRHS\n s c 1\n t zz 1\n",
             "deck: line 7: SecondSet",
+        ),
+        (
+            "NAME a b c d e f g h\nROWS\n N c\nCOLUMNS\n x c 1 c 2 c 3 c 4\n",
+            "deck: line 5: FieldCount",
         ),
     ];
     for (input, line) in rows {

@@ -86,6 +86,18 @@ fn groups(rt: HostRuntime) -> Result<(), Fail> {
             "GROUPS\n g COL x\n g COL y\n h COL x\n g COL z\n",
             "deck: line 13: GroupSplit",
         ),
+        (
+            "GROUPS\n g COL x ROW r COL y UPC x COL y UPC x COL x UP z\n",
+            "deck: line 10: PairKind",
+        ),
+        (
+            "GROUPS\n g COL x ROW r COL y UPC x COL y UPC x COL x UPC y\n",
+            "deck: line 10: PairUpper",
+        ),
+        (
+            "GROUPS\n g COL x ROW r COL y UPC x COL y UPC x COL x ROW r\nENDATA\n",
+            "no line 1 BadHead",
+        ),
         ("GROUPS\nPAIRS\n", "deck: line 10: SectionOrder"),
         ("GROUPS\nGROUPS\n", "deck: line 10: SectionOrder"),
         (

@@ -3,7 +3,7 @@ ghost use Rattle.std.specs.Prelude.{◌≡◌, ◌<◌, ◌-◌, ◌^◌, ◌∷
 ghost use Rattle.derivation.specs.Logs.{no_goods};
 ghost use Rattle.nogoods.specs.declared.choice.Side.TheVariants.{A, B};
 
-use crate::command_tests::{BOUNDED_DECK, CERTIFICATE, FALLING_DECK, OPTIMAL, UNBOUNDED};
+use crate::texts::{BOUNDED_DECK, CERTIFICATE, FALLING_DECK, OPTIMAL, UNBOUNDED};
 use cert_text::read_cert;
 use cert_write::write_cert;
 use cuts::{Cut, CutFault, check_cut};

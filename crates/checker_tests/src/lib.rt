@@ -13,3 +13,4 @@ mod deck_tests;
 mod group_tests;
 #[cfg(test)]
 mod layer_tests;
+pub mod texts;
