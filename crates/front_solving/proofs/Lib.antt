@@ -1,0 +1,6 @@
+pub mod Shown
+pub mod Optima
+pub mod Columns
+pub mod Costs
+pub mod Meaning
+pub mod Answered
