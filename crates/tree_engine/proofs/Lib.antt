@@ -1,0 +1,10 @@
+mod Lists
+mod PathLaws
+mod BestLaws
+mod TreeLaws
+mod RunLaws
+mod LoosePairs
+mod Visits
+mod Pieces
+mod Turns
+mod Sides
