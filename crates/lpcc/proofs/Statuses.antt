@@ -10,6 +10,13 @@ use Rattle.command.specs.declared.refusal.Refusal.{Refusal}
 use Rattle.command.specs.declared.refusal.Refusal.TheVariants.{Deck, NoMemory, ReadFault, RowWide, TooLong, TooMany}
 use Rattle.deck_gen.specs.Generator.{deck_text}
 use Rattle.deck_gen.specs.declared.sizes.Sizes.{Sizes}
+use Rattle.front_text.specs.Texts.{FailsAsBilevel, FailsAsLcp, SpellsBilevel, SpellsLcp}
+use Rattle.front_text.specs.declared.fault.FrontWhy.{FrontWhy}
+use Rattle.fronting.specs.Refusals as front_refusals
+use Rattle.fronting.specs.Runs as fronts
+use Rattle.fronting.specs.declared.refusal.FrontRefusal.{FrontRefusal}
+use Rattle.fronting.specs.declared.refusal.FrontRefusal.TheVariants as front_refusal
+use Rattle.front_solving.specs.Solving as solutions
 use Rattle.generating.specs.Generating.{IsGenerated, IsGeneratedAndSolved, IsOutOfMemory}
 use Rattle.play.specs.declared.event.Options.{Options}
 use Rattle.play.specs.declared.ending.Ending.{Ending}
@@ -22,7 +29,7 @@ use Rattle.report.specs.declared.relaxation.Relaxation.TheVariants as relaxation
 use Rattle.solving.specs.Solving as solving
 use Rattle.verifier.specs.Runs.{IsChecked}
 use Rattle.words.specs.declared.command.Command.{Command}
-use Rattle.words.specs.declared.command.Command.TheVariants.{Check, Generate, Relax, Solve}
+use Rattle.words.specs.declared.command.Command.TheVariants.{Bilevel, Check, Generate, Lcp, Relax, Solve}
 use Rattle.words.specs.declared.command.Draft.{Draft}
 use Rattle.words.specs.declared.command.Settings.{Settings}
 use Rattle.verifier.specs.declared.answer.Answer.TheVariants.{Refused}
@@ -96,6 +103,24 @@ made_not_two : (o : Settings → Options) (draft : Draft) (left : Option (List �
 made_not_two o draft left rb rn tb tn wb wn false e run = plain_not_two (sizes_of draft) tb tn wb wn (run.0 e)
 made_not_two o draft left rb rn tb tn wb wn true e run = solved_not_two (sizes_of draft) tb tn wb wn (run.1 e)
 
+front_not_two : (r : FrontRefusal) → 2 ≡ front_refusals.status_of r → ⊥
+front_not_two front_refusal.ReadFault e = omega arith
+front_not_two front_refusal.TooLong e = omega arith
+front_not_two (front_refusal.Problem line why) e = omega arith
+front_not_two front_refusal.NoMemory e = omega arith
+
+problem_not_two : {P : Type 0} (Says : P → List ℕ → ℕ → Type 0) (tb tn : Option (List ℕ)) (wb wn : ℕ) (read : Result P FrontRefusal) → ((p : P) (text : List ℕ) (meant : ℕ) → Says p text meant → 2 ≡ meant → ⊥) → fronts.IsWrittenFor Says read tb tn wb wn 2 → ⊥
+problem_not_two Says tb tn wb wn (Ok p) other w = written_not_two tb tn wb wn w.0 w.1 (other p w.0 w.1 w.2) w.3
+problem_not_two Says tb tn wb wn (Err r) other w = written_not_two tb tn wb wn (front_refusals.text_of r) (front_refusals.status_of r) (front_not_two r) w
+
+lcp_not_two : (left : Option (List ℕ)) (rb rn : ℕ) (tb tn : Option (List ℕ)) (wb wn : ℕ) (solve b : Bool) → solve ≡ b → (o : Settings → Options) → Runs o (Lcp solve) left rb rn tb tn wb wn 2 → ⊥
+lcp_not_two left rb rn tb tn wb wn solve false e o run = problem_not_two fronts.IsLcpDeck tb tn wb wn (run.0 e).0.read (λ p text meant says two. omega (arith, two, says.1)) (run.0 e).0.written
+lcp_not_two left rb rn tb tn wb wn solve true e o run = problem_not_two (solutions.SaysOfLcp usual) tb tn wb wn (run.1 e).0.read (λ p text meant says two. ending_not_two says.end (two ∙ says.status_is)) (run.1 e).0.written
+
+bilevel_not_two : (left : Option (List ℕ)) (rb rn : ℕ) (tb tn : Option (List ℕ)) (wb wn : ℕ) (solve b : Bool) → solve ≡ b → (o : Settings → Options) → Runs o (Bilevel solve) left rb rn tb tn wb wn 2 → ⊥
+bilevel_not_two left rb rn tb tn wb wn solve false e o run = problem_not_two fronts.IsBilevelDeck tb tn wb wn (run.0 e).0.read (λ p text meant says two. omega (arith, two, says.1)) (run.0 e).0.written
+bilevel_not_two left rb rn tb tn wb wn solve true e o run = problem_not_two (solutions.SaysOfBilevel usual) tb tn wb wn (run.1 e).0.read (λ p text meant says two. ending_not_two says.end (two ∙ says.status_is)) (run.1 e).0.written
+
 abbrev pub NotTwo : Type 0
 NotTwo = (left : Option (List ℕ)) (rb rn : ℕ) (tb tn : Option (List ℕ)) (wb wn status : ℕ) → IsChecked left rb rn tb tn wb wn status → status ≡ 2 → ⊥
 
@@ -104,6 +129,8 @@ not_two o law Check left rb rn tb tn wb wn run = law left rb rn tb tn wb wn 2 ru
 not_two o law (Relax q) left rb rn tb tn wb wn run = run_not_two (relaxing.Says q) left rb rn tb tn wb wn (λ a text meant says e. relaxation_not_two says.end (e ∙ says.status_is)) run.0
 not_two o law (Solve s) left rb rn tb tn wb wn run = solve_not_two (o s) s.brief left rb rn tb tn wb wn run.0
 not_two o law (Generate d) left rb rn tb tn wb wn run = made_not_two o d left rb rn tb tn wb wn d.solve refl run
+not_two o law (Lcp solve) left rb rn tb tn wb wn run = lcp_not_two left rb rn tb tn wb wn solve solve refl o run
+not_two o law (Bilevel solve) left rb rn tb tn wb wn run = bilevel_not_two left rb rn tb tn wb wn solve solve refl o run
 
 pub never_two : (o : Settings → Options) → NotTwo → (c : Command) (left : Option (List ℕ)) (rb rn : ℕ) (tb tn : Option (List ℕ)) (wb wn status : ℕ) → Runs o c left rb rn tb tn wb wn status → status ≡ 2 → ⊥
 never_two o law c left rb rn tb tn wb wn status run two = not_two o law c left rb rn tb tn wb wn (subst (λ (n : ℕ). Runs o c left rb rn tb tn wb wn n) two run)
@@ -126,7 +153,23 @@ of_usual how d o left rb rn tb tn wb wn status on e made = (
   λ _. subst (λ (x : Options). IsGeneratedAndSolved x (sizes_of d) tb tn wb wn status) e made,
 )
 
+-- a problem is printed or solved
+pub of_lcp : (how : Settings → Options) (solve : Bool) (o : Options) (left : Option (List ℕ)) (rb rn : ℕ) (tb tn : Option (List ℕ)) (wb wn status : ℕ) → solve ≡ true → o ≡ usual → fronts.IsLcpRun (solutions.SaysOfLcp o) left rb rn tb tn wb wn status → (status ≡ 0 → (bytes : List ℕ) → left ≡ Some bytes → solutions.IsLcpAnswered bytes tb tn) → Runs how (Lcp solve) left rb rn tb tn wb wn status
+of_lcp how solve o left rb rn tb tn wb wn status on e answered solved = (
+  λ off. absurd (cc (on, off)),
+  λ _. (subst (λ (x : Options). fronts.IsLcpRun (solutions.SaysOfLcp x) left rb rn tb tn wb wn status) e answered, solved),
+)
+
+pub of_bilevel : (how : Settings → Options) (solve : Bool) (o : Options) (left : Option (List ℕ)) (rb rn : ℕ) (tb tn : Option (List ℕ)) (wb wn status : ℕ) → solve ≡ true → o ≡ usual → fronts.IsBilevelRun (solutions.SaysOfBilevel o) left rb rn tb tn wb wn status → (status ≡ 0 → (bytes : List ℕ) → left ≡ Some bytes → solutions.IsBilevelAnswered bytes tb tn) → Runs how (Bilevel solve) left rb rn tb tn wb wn status
+of_bilevel how solve o left rb rn tb tn wb wn status on e answered solved = (
+  λ off. absurd (cc (on, off)),
+  λ _. (subst (λ (x : Options). fronts.IsBilevelRun (solutions.SaysOfBilevel x) left rb rn tb tn wb wn status) e answered, solved),
+)
+
 -- ---- want of memory
+
+short_problem : {P : Type 0} (Spells : List ℕ → P → Type 0) (Fails : List ℕ → ℕ → FrontWhy → Type 0) (Says : P → List ℕ → ℕ → Type 0) (left : Option (List ℕ)) (count : ℕ) (tb tn : Option (List ℕ)) (wb wn status : ℕ) → IsOutOfMemory tb tn wb wn status → fronts.IsFrontRun Spells Fails Says left count count tb tn wb wn status
+short_problem Spells Fails Says left count tb tn wb wn status short = record { read = Err front_refusal.NoMemory; right = record { counted = λ e. absurd (cc e); right = λ bytes told. inr (inl refl) }; written = short }
 
 short_read : (left : Option (List ℕ)) (count : ℕ) → IsRightCase left count count (Err NoMemory)
 short_read left count = record { counted = λ e. absurd (cc e); right = λ bytes told. inr (inl refl) }
@@ -157,6 +200,14 @@ of_memory how (Solve s) left count tb tn wb wn status short =
     let five_six = five_or_six tb tn wb wn status short in
     (short_run (solving.Says (how s) s.brief) left count tb tn wb wn status short, λ zero. absurd (is_other 0 status (λ e. omega arith) (λ e. omega arith) five_six zero), λ bytes told a spelled many eight. is_other 8 status (λ e. omega arith) (λ e. omega arith) five_six eight)
 of_memory how (Generate d) left count tb tn wb wn status short = (λ off. inr short, λ on. inr short)
+of_memory how (Lcp solve) left count tb tn wb wn status short =
+    let five_six = five_or_six tb tn wb wn status short in
+    let never : status ≡ 0 → ⊥ = is_other 0 status (λ e. omega arith) (λ e. omega arith) five_six in
+    (λ off. (short_problem SpellsLcp FailsAsLcp fronts.IsLcpDeck left count tb tn wb wn status short, λ zero. absurd (never zero)), λ on. (short_problem SpellsLcp FailsAsLcp (solutions.SaysOfLcp usual) left count tb tn wb wn status short, λ zero. absurd (never zero)))
+of_memory how (Bilevel solve) left count tb tn wb wn status short =
+    let five_six = five_or_six tb tn wb wn status short in
+    let never : status ≡ 0 → ⊥ = is_other 0 status (λ e. omega arith) (λ e. omega arith) five_six in
+    (λ off. (short_problem SpellsBilevel FailsAsBilevel fronts.IsBilevelDeck left count tb tn wb wn status short, λ zero. absurd (never zero)), λ on. (short_problem SpellsBilevel FailsAsBilevel (solutions.SaysOfBilevel usual) left count tb tn wb wn status short, λ zero. absurd (never zero)))
 
 pub memory_never_two : (tb tn : Option (List ℕ)) (wb wn status : ℕ) → IsOutOfMemory tb tn wb wn status → status ≡ 2 → ⊥
 memory_never_two tb tn wb wn status short two = is_other 2 status (λ e. omega arith) (λ e. omega arith) (five_or_six tb tn wb wn status short) two

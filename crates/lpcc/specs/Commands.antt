@@ -6,6 +6,10 @@ use Rattle.command.specs.Runs.{IsRun}
 use Rattle.deck_gen.specs.Generator.{IsInRange}
 use Rattle.deck_gen.specs.declared.sizes.Sizes.{Sizes}
 use Rattle.generating.specs.Generating.{IsGenerated, IsGeneratedAndSolved}
+use Rattle.front_text.specs.Texts.{SpellsBilevel, SpellsLcp}
+use Rattle.kkt_front.specs.DeckTexts.{bilevel_text, lcp_text}
+use Rattle.fronting.specs.Runs.{IsBilevelDeck, IsBilevelRun, IsLcpDeck, IsLcpRun, IsPrinted}
+use Rattle.front_solving.specs.Solving.{IsBilevelAnswered, IsLcpAnswered, SaysOfBilevel, SaysOfLcp}
 use Rattle.play.specs.declared.event.Options.{Options}
 use Rattle.play.specs.declared.event.ShrinkMode.TheVariants.{Full, Off}
 use Rattle.relaxing.specs.Relaxing as relaxing
@@ -13,7 +17,7 @@ use Rattle.solving.specs.Solving as solving
 use Rattle.verifier.specs.Runs.{IsChecked, SaysYes}
 use Rattle.words.specs.Commands.{command_of}
 use Rattle.words.specs.declared.command.Command.{Command}
-use Rattle.words.specs.declared.command.Command.TheVariants.{Check, Generate, Relax, Solve}
+use Rattle.words.specs.declared.command.Command.TheVariants.{Bilevel, Check, Generate, Lcp, Relax, Solve}
 use Rattle.words.specs.declared.command.Draft.{Draft}
 use Rattle.words.specs.declared.command.Settings.{Settings}
 use Rattle.words.specs.declared.command.TheConstants.{MOST_WORKERS, USUAL_PIECES, USUAL_PIVOTS}
@@ -24,6 +28,8 @@ IsPossible Check = ⊤
 IsPossible (Relax pivots) = ⊤
 IsPossible (Solve settings) = (1 ≤ settings.workers) × (settings.workers ≤ MOST_WORKERS)
 IsPossible (Generate draft) = IsInRange draft.columns draft.rows draft.pairs
+IsPossible (Lcp solve) = ⊤
+IsPossible (Bilevel solve) = ⊤
 
 -- the words are this command
 abbrev pub IsCommand : List (List ℕ) → Command → Type 0
@@ -54,6 +60,28 @@ sizes_of d = record { seed = d.seed; columns = d.columns; rows = d.rows; pairs =
 
 -- ---- what a run says
 
+-- the deck of the problem is written; status 0 says that it was
+abbrev pub IsLcpPrinted : Option (List ℕ) → ℕ → ℕ → Option (List ℕ) → Option (List ℕ) → ℕ → ℕ → ℕ → Type 0
+IsLcpPrinted left rb rn tb tn wb wn status =
+    IsLcpRun IsLcpDeck left rb rn tb tn wb wn status
+    × (status ≡ 0 → (bytes : List ℕ) → left ≡ Some bytes → IsPrinted SpellsLcp lcp_text bytes tb tn)
+
+abbrev pub IsBilevelPrinted : Option (List ℕ) → ℕ → ℕ → Option (List ℕ) → Option (List ℕ) → ℕ → ℕ → ℕ → Type 0
+IsBilevelPrinted left rb rn tb tn wb wn status =
+    IsBilevelRun IsBilevelDeck left rb rn tb tn wb wn status
+    × (status ≡ 0 → (bytes : List ℕ) → left ≡ Some bytes → IsPrinted SpellsBilevel bilevel_text bytes tb tn)
+
+-- the problem is solved by its deck; status 0 says that the answer is true of it
+abbrev pub IsLcpSolved : Option (List ℕ) → ℕ → ℕ → Option (List ℕ) → Option (List ℕ) → ℕ → ℕ → ℕ → Type 0
+IsLcpSolved left rb rn tb tn wb wn status =
+    IsLcpRun (SaysOfLcp usual) left rb rn tb tn wb wn status
+    × (status ≡ 0 → (bytes : List ℕ) → left ≡ Some bytes → IsLcpAnswered bytes tb tn)
+
+abbrev pub IsBilevelSolved : Option (List ℕ) → ℕ → ℕ → Option (List ℕ) → Option (List ℕ) → ℕ → ℕ → ℕ → Type 0
+IsBilevelSolved left rb rn tb tn wb wn status =
+    IsBilevelRun (SaysOfBilevel usual) left rb rn tb tn wb wn status
+    × (status ≡ 0 → (bytes : List ℕ) → left ≡ Some bytes → IsBilevelAnswered bytes tb tn)
+
 -- What a run of the command does over a source with these bytes left and a sink that took these, with the counts of faults
 -- of both before and behind it, a solve being made with the options that `options_of` gives it: the right answer is
 -- written; what status 0 says; and that budgets which are enough are never spent.
@@ -72,3 +100,7 @@ Runs options_of (Solve settings) left rb rn tb tn wb wn status =
 Runs options_of (Generate draft) left rb rn tb tn wb wn status =
     (draft.solve ≡ false → IsGenerated (sizes_of draft) tb tn wb wn status)
     × (draft.solve ≡ true → IsGeneratedAndSolved usual (sizes_of draft) tb tn wb wn status)
+Runs options_of (Lcp solve) left rb rn tb tn wb wn status =
+    (solve ≡ false → IsLcpPrinted left rb rn tb tn wb wn status) × (solve ≡ true → IsLcpSolved left rb rn tb tn wb wn status)
+Runs options_of (Bilevel solve) left rb rn tb tn wb wn status =
+    (solve ≡ false → IsBilevelPrinted left rb rn tb tn wb wn status) × (solve ≡ true → IsBilevelSolved left rb rn tb tn wb wn status)

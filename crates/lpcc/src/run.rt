@@ -5,11 +5,13 @@ ghost use Rattle.deck_gen.specs.Generator.{IsInRange};
 ghost use Rattle.lpcc.specs.Answers.{Answers, IsUnread, words_refused};
 ghost use Rattle.lpcc.specs.Commands.{IsCommand, IsNoCommand, IsPossible, ReadsNothing, Runs, as_asked, by_one_worker, usual};
 ghost use Rattle.words.specs.declared.command.Command.{Command as Request};
-ghost use Rattle.words.specs.declared.command.Command.TheVariants.{Generate, Solve};
+ghost use Rattle.words.specs.declared.command.Command.TheVariants.{Bilevel, Generate, Lcp, Solve};
 ghost use Rattle.words.specs.declared.command.Draft.{Draft as Plan};
 
 use command::{Status, give, give_no_memory};
 use deck_gen::in_range;
+use front_solving::{solve_bilevel, solve_lcp};
+use fronting::{print_bilevel, print_lcp};
 use generating::{generate, generate_and_solve};
 use lp_io::{Sink, Source};
 use play::{Options, ShrinkMode, Workers};
@@ -30,7 +32,7 @@ fn is_possible(command: Command) -> bool
     ensures { IsTrue result ↔ IsPossible command }
 {
     match command {
-        Command::Check | Command::Relax(_) => true,
+        Command::Check | Command::Relax(_) | Command::Lcp { .. } | Command::Bilevel { .. } => true,
         Command::Solve(settings) => 1 <= settings.workers && settings.workers <= MOST_WORKERS,
         Command::Generate(draft) => in_range(draft.columns, draft.rows, draft.pairs),
     }
@@ -101,6 +103,30 @@ fn run_draft<K: Sink>(alloc: Global, draft: Draft, out: &mut K) -> Status
     }
 }
 
+// Prints the deck of a complementarity problem, or solves it.
+fn run_lcp<S: Source, K: Sink>(alloc: Global, solve: bool, src: &mut S, out: &mut K) -> Status
+    ensures { Runs by_one_worker (Lcp solve) (S.left src.old) (S.faults src.old) (S.faults src.new)
+        (K.taken out.old) (K.taken out.new) (K.faults out.old) (K.faults out.new) result }
+{
+    if solve {
+        solve_lcp(alloc, &usual(), src, out)
+    } else {
+        print_lcp(alloc, src, out)
+    }
+}
+
+// Prints the deck of a bilevel problem, or solves it.
+fn run_bilevel<S: Source, K: Sink>(alloc: Global, solve: bool, src: &mut S, out: &mut K) -> Status
+    ensures { Runs by_one_worker (Bilevel solve) (S.left src.old) (S.faults src.old) (S.faults src.new)
+        (K.taken out.old) (K.taken out.new) (K.faults out.old) (K.faults out.new) result }
+{
+    if solve {
+        solve_bilevel(alloc, &usual(), src, out)
+    } else {
+        print_bilevel(alloc, src, out)
+    }
+}
+
 fn run_command<S: Source, K: Sink>(
     alloc: Global,
     command: Command,
@@ -119,6 +145,8 @@ fn run_command<S: Source, K: Sink>(
             run_solve(alloc, &options_of(settings), settings.brief, src, out)
         }
         Command::Generate(draft) => run_draft(alloc, draft, out),
+        Command::Lcp { solve } => run_lcp(alloc, solve, src, out),
+        Command::Bilevel { solve } => run_bilevel(alloc, solve, src, out),
     }
 }
 
@@ -205,6 +233,8 @@ fn run_command_as_asked<R: Threads + Wait + Sync, S: Source, K: Sink, G: Gate + 
         Command::Relax(pivots) => relax(alloc, pivots, src, out),
         Command::Solve(settings) => run_solve_as_asked(rt, alloc, settings, gate, src, out),
         Command::Generate(draft) => run_draft(alloc, draft, out),
+        Command::Lcp { solve } => run_lcp(alloc, solve, src, out),
+        Command::Bilevel { solve } => run_bilevel(alloc, solve, src, out),
     }
 }
 

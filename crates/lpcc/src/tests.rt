@@ -31,6 +31,13 @@ const ZERO: &str =
 const SHARED: &str =
     "ROWS\n N cost\n G r1\nCOLUMNS\n x r1 1\n y cost 1\n z cost 1\nRHS\n rhs r1 1\nPAIRS\n p1 COL x COL y\n p2 COL x COL z\nENDATA\n";
 
+/// A spring that a wall keeps from its rest, with the gap 2.
+const LCP: &str = "lpcc-lcp 1\nsize 1\nq : 1 -2\nrow 1 : 1 1\nend\n";
+
+/// The leader's x from 0 to 5, at the cost 1, and the follower's y, for which the leader earns 1.
+const BILEVEL: &str =
+    "lpcc-bilevel 1\nsizes 1 1\ncost : 1 1 2 -1\nfollow : 2 1\nup 0 : 1 1\nup -5 : 1 -1\nlow 0 : 1 -1 2 1\nlow 2 : 1 1 2 1\nend\n";
+
 /// One equation without columns, 0 = 1.
 const NOTHING: &str = "ROWS\n N cost\n E r1\nCOLUMNS\nRHS\n rhs r1 1\nENDATA\n";
 
@@ -68,6 +75,8 @@ fn words(rt: HostRuntime) -> Result<(), Fail> {
         "gen 7 2 1 2",
         "gen 7 2 1",
         "gen 7 2 --solve 1 1",
+        "lcp --brief",
+        "bilevel 1",
         "help",
     ];
     for row in rows {
@@ -132,6 +141,26 @@ fn answers(rt: HostRuntime) -> Result<(), Fail> {
         ("solve --brief", ZERO, 0, "* optimal 0\n* drawn 2\n"),
         ("solve --brief", SHARED, 0, "* optimal 0\n* drawn 3\n"),
         ("gen 7 2 1 1 --solve", "", 0, "* optimal 8\n* drawn 2\n"),
+        (
+            "lcp",
+            LCP,
+            0,
+            "NAME lcp\nROWS\n N cost\n G w1\nCOLUMNS\n z1 cost 0\n z1 w1 1\nRHS\n rhs w1 2\nPAIRS\n p1 ROW w1 COL z1\nENDATA\n",
+        ),
+        ("lcp --solve", LCP, 0, "* solution 1 : 1 2\n"),
+        (
+            "lcp --solve",
+            "lpcc-lcp 1\nsize 1\nq : 1 -1\nrow 1 :\nend\n",
+            0,
+            "* no solution\n",
+        ),
+        ("lcp", "lpcc-lcp 1\n", 3, "front: line 2: NotEnded\n"),
+        (
+            "bilevel --solve",
+            BILEVEL,
+            0,
+            "* optimal -2\n* point 1 : 2 2\n",
+        ),
     ];
     for (words, input, status, text) in rows {
         let found = answer(rt.alloc(), words, input)?;

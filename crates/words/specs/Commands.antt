@@ -5,7 +5,7 @@ use Rattle.clap.specs.Words.{Kinds, Row, Text, all_of, fault_of, first_of, match
 use Rattle.clap.specs.declared.parser.ValueSource.{ValueSource}
 use Rattle.clap.specs.declared.parser.ValueSource.TheVariants.{CommandLine, DefaultValue}
 use Rattle.words.specs.declared.command.Command.{Command}
-use Rattle.words.specs.declared.command.Command.TheVariants.{Check, Generate, Relax, Solve}
+use Rattle.words.specs.declared.command.Command.TheVariants.{Bilevel, Check, Generate, Lcp, Relax, Solve}
 use Rattle.words.specs.declared.command.Draft.{Draft}
 use Rattle.words.specs.declared.command.Settings.{Settings}
 use Rattle.words.specs.declared.command.TheConstants.{MOST_WORKERS, USUAL_PIECES, USUAL_PIVOTS}
@@ -54,6 +54,9 @@ is_beyond_check rows = is_beyond_relax rows || stands (codes "pivots") rows
 abbrev pub is_beyond_gen : List Row → Bool
 is_beyond_gen rows = stands (codes "workers") rows || stands (codes "pieces") rows || stands (codes "pivots") rows || stands (codes "shrink") rows || stands (codes "brief") rows
 
+abbrev pub is_beyond_front : List Row → Bool
+is_beyond_front rows = stands (codes "numbers") rows || is_beyond_gen rows
+
 -- ---- the commands
 
 abbrev pub settings : ℕ → ℕ → ℕ → Bool → Bool → Settings
@@ -101,12 +104,20 @@ draft_of solve (s ∷ c ∷ r ∷ p ∷ w ∷ ws) = None
 abbrev pub gen_of : List Row → Option Command
 gen_of rows = if is_beyond_gen rows then None else option_map Generate (draft_of (stands (codes "solve") rows) (numbers_of rows))
 
+abbrev pub lcp_of : List Row → Option Command
+lcp_of rows = if is_beyond_front rows then None else Some (Lcp (stands (codes "solve") rows))
+
+abbrev pub bilevel_of : List Row → Option Command
+bilevel_of rows = if is_beyond_front rows then None else Some (Bilevel (stands (codes "solve") rows))
+
 abbrev pub command_named : Text → List Row → Option Command
 command_named w rows =
     if bytes_eq w (codes "check") then check_of rows
     else if bytes_eq w (codes "relax") then relax_of rows
     else if bytes_eq w (codes "gen") then gen_of rows
     else if bytes_eq w (codes "solve") then solve_of rows
+    else if bytes_eq w (codes "lcp") then lcp_of rows
+    else if bytes_eq w (codes "bilevel") then bilevel_of rows
     else None
 
 abbrev pub command_in : List Row → Option Command

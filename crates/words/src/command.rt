@@ -1,7 +1,7 @@
 //! The commands.
 ghost use Rattle.std.specs.Prelude.{◌≡◌, ◌≤◌, map, option_map};
 ghost use Rattle.clap.specs.Words.{first_of, found_of, rows_of};
-ghost use Rattle.words.specs.Commands.{check_of, command_in, command_named, draft_of, gen_of, is_beyond_check, is_beyond_gen, is_beyond_relax, is_beyond_solve, is_full, is_of_words, number_or, numbers_of, relax_of, settings_of, solve_of, source_of, stands};
+ghost use Rattle.words.specs.Commands.{bilevel_of, check_of, command_in, command_named, draft_of, gen_of, is_beyond_check, is_beyond_front, is_beyond_gen, is_beyond_relax, is_beyond_solve, is_full, is_of_words, lcp_of, number_or, numbers_of, relax_of, settings_of, solve_of, source_of, stands};
 
 use crate::numbers::{MOST, number_in};
 use clap::ArgMatches;
@@ -53,6 +53,10 @@ pub enum Command {
     Solve(Settings),
     /// Make a deck.
     Generate(Draft),
+    /// Print the deck of a linear complementarity problem, or solve it.
+    Lcp { solve: bool },
+    /// Print the deck of a bilevel problem, or solve it.
+    Bilevel { solve: bool },
 }
 
 fn source_of(matches: &ArgMatches, id: &str) -> Option<ValueSource>
@@ -141,6 +145,12 @@ fn is_beyond_gen(matches: &ArgMatches) -> bool
         || stands(matches, "brief")
 }
 
+fn is_beyond_front(matches: &ArgMatches) -> bool
+    ensures { result ≡ is_beyond_front (rows_of (found_of matches.now)) }
+{
+    stands(matches, "numbers") || is_beyond_gen(matches)
+}
+
 fn check_of(matches: &ArgMatches) -> Option<Command>
     ensures { result ≡ check_of (rows_of (found_of matches.now)) }
 {
@@ -224,6 +234,28 @@ fn gen_of(matches: &ArgMatches) -> Option<Command>
     Some(Command::Generate(draft_in(solve, matches)?))
 }
 
+fn lcp_of(matches: &ArgMatches) -> Option<Command>
+    ensures { result ≡ lcp_of (rows_of (found_of matches.now)) }
+{
+    if is_beyond_front(matches) {
+        return None;
+    }
+    Some(Command::Lcp {
+        solve: stands(matches, "solve"),
+    })
+}
+
+fn bilevel_of(matches: &ArgMatches) -> Option<Command>
+    ensures { result ≡ bilevel_of (rows_of (found_of matches.now)) }
+{
+    if is_beyond_front(matches) {
+        return None;
+    }
+    Some(Command::Bilevel {
+        solve: stands(matches, "solve"),
+    })
+}
+
 fn command_named(name: &str, matches: &ArgMatches) -> Option<Command>
     ensures { result ≡ command_named name.now (rows_of (found_of matches.now)) }
 {
@@ -235,6 +267,10 @@ fn command_named(name: &str, matches: &ArgMatches) -> Option<Command>
         gen_of(matches)
     } else if name == "solve" {
         solve_of(matches)
+    } else if name == "lcp" {
+        lcp_of(matches)
+    } else if name == "bilevel" {
+        bilevel_of(matches)
     } else {
         None
     }

@@ -1,6 +1,6 @@
 use Rattle.std.proofs.Common.{ap}
 use Rattle.engine.specs.Solved.{alone}
-use Rattle.words.specs.declared.command.Command.TheVariants.{Generate, Solve}
+use Rattle.words.specs.declared.command.Command.TheVariants.{Bilevel, Generate, Lcp, Solve}
 use Rattle.lpcc.specs.Commands.{by_one_worker}
 use Rattle.lpcc.proofs.Statuses.{at_command, of_solve}
 use Rattle.lpcc.proofs.run.run_command.Goals as goal
@@ -14,3 +14,9 @@ returns-in-Solve-clause-answered g c =
 pub returns-in-Generate-clause-answered : goal.returns-in-Generate-clause-answered
 returns-in-Generate-clause-answered g c =
     at_command by_one_worker c.args.command (Generate c.in-Generate.draft) _ _ _ _ _ _ _ _ c.in-Generate.is (c.run_draft.ensures (g.S.Source.left c.args.src.now) (g.S.Source.faults c.args.src.now) (g.S.Source.faults c.args.src.now))
+
+pub returns-in-Lcp-clause-answered : goal.returns-in-Lcp-clause-answered
+returns-in-Lcp-clause-answered g c = at_command by_one_worker c.args.command (Lcp c.in-Lcp.solve) _ _ _ _ _ _ _ _ c.in-Lcp.is c.run_lcp.ensures
+
+pub returns-in-Bilevel-clause-answered : goal.returns-in-Bilevel-clause-answered
+returns-in-Bilevel-clause-answered g c = at_command by_one_worker c.args.command (Bilevel c.in-Bilevel.solve) _ _ _ _ _ _ _ _ c.in-Bilevel.is c.run_bilevel.ensures

@@ -1,4 +1,4 @@
-use Rattle.words.specs.declared.command.Command.TheVariants.{Check, Generate, Solve}
+use Rattle.words.specs.declared.command.Command.TheVariants.{Bilevel, Check, Generate, Lcp, Solve}
 use Rattle.lpcc.specs.Commands.{as_asked}
 use Rattle.lpcc.proofs.Statuses.{at_command}
 use Rattle.lpcc.proofs.run.run_command_as_asked.Goals as goal
@@ -12,3 +12,9 @@ returns-in-Generate-clause-answered g c =
 
 pub returns-in-Check-clause-answered : goal.returns-in-Check-clause-answered
 returns-in-Check-clause-answered g c = at_command as_asked c.args.command Check _ _ _ _ _ _ _ _ c.in-Check.is (c.verify.ensures.answered, c.verify.ensures.yes)
+
+pub returns-in-Lcp-clause-answered : goal.returns-in-Lcp-clause-answered
+returns-in-Lcp-clause-answered g c = at_command as_asked c.args.command (Lcp c.in-Lcp.solve) _ _ _ _ _ _ _ _ c.in-Lcp.is c.run_lcp.ensures
+
+pub returns-in-Bilevel-clause-answered : goal.returns-in-Bilevel-clause-answered
+returns-in-Bilevel-clause-answered g c = at_command as_asked c.args.command (Bilevel c.in-Bilevel.solve) _ _ _ _ _ _ _ _ c.in-Bilevel.is c.run_bilevel.ensures
