@@ -1,5 +1,5 @@
 -- A deck, and behind it what the solver wrote.
-use Rattle.std.proofs.Common.{ℕ, ◌+◌, ◌-◌, ◌<◌, ◌≤◌, ◌≡◌, ◌∙◌, refl, sym, ap, subst, arith, true, false, List, [], ◌++◌, Option, Some, take, drop, length, inl, inr}
+use Rattle.std.proofs.Common.{ℕ, ◌+◌, ◌-◌, ◌<◌, ◌≤◌, ◌≡◌, ◌∙◌, refl, sym, ap, subst, arith, true, List, [], ◌++◌, Option, Some, take, drop, length, inl, inr}
 use Rattle.std.specs.Prelude.{◌⊎◌}
 use Rattle.std.specs.Io.KnownBytes.{Appends}
 use Rattle.std.proofs.lemmas.List.{length-take}
@@ -11,11 +11,13 @@ use Rattle.mps_lex.specs.Lines.{ends_with}
 use Rattle.decks.specs.Texts.{Spells}
 use Rattle.decks.specs.declared.deck.Deck as decks
 use Rattle.deck_case.specs.DeckCases.{HasCase}
-use Rattle.cert_text.specs.Texts as certificate_texts
+use Rattle.cert2_text.specs.Texts2 as certificate_texts
 use Rattle.command.specs.Inputs.{SpellsCase}
 use Rattle.command.specs.declared.extent.Extent.TheVariants.{Prefix}
 use Rattle.play.specs.declared.event.Options.{Options}
-use Rattle.report.specs.Endings.{verdict_text}
+use Rattle.report.specs.declared.style.Style.{Style}
+use Rattle.report.specs.declared.style.Style.TheVariants.{Brief, One, Two}
+use Rattle.report.specs.Endings.{in_form, verdict_text, whole}
 use Rattle.verifier.specs.Answers.{text_of}
 use Rattle.verifier.specs.Causes.{IsAccepted}
 use Rattle.verifier.specs.Runs.{IsChecked}
@@ -47,8 +49,13 @@ spells_case follows within bytes text d p a spelled ended case = record {
   behind = sym (behind_front p bytes text (within bytes d p spelled));
 }
 
-pub agreed : Once → Within → WhateverFollows → (bytes deck text : List ℕ) (o : Options) → IsSolved bytes deck text o → (v : Verdict) × IsAgreed deck text v
-agreed once within follows bytes deck text o h =
+whole_twice : (style : Style) → whole (whole style) ≡ whole style
+whole_twice Brief = refl
+whole_twice One = refl
+whole_twice Two = refl
+
+pub agreed : Once → Within → WhateverFollows → (bytes deck text : List ℕ) (o : Options) (style : Style) → IsSolved bytes deck text o style → (v : Verdict) × IsAgreed deck text v
+agreed once within follows bytes deck text o style h =
     let s = h.said in
     let c = s.spelled.1 in
     let same : c.deck ≡ h.spelled_deck = (once bytes c.deck h.spelled_deck c.place h.place c.spelled h.spelled).0 in
@@ -56,14 +63,16 @@ agreed once within follows bytes deck text o h =
     let ended = subst (λ (l : List ℕ). ends_with 10 l ≡ true) h.deck_is h.ended in
     let front = spells_case follows within bytes text h.spelled_deck h.place s.a h.spelled ended case in
     let here = subst (λ (l : List ℕ). SpellsCase Prefix (l ++ text) s.a text) (sym h.deck_is) front in
-    let names : text ≡ verdict_text s.verdict s.drawn false s.cert = s.written in
-    let certificate = subst (λ (l : List ℕ). certificate_texts.Spells l s.cert) (sym names) s.certificate in (
+    let names : text ≡ verdict_text s.verdict s.drawn (whole style) s.cert = s.written in
+    let spelled_so = subst (λ (x : Style). certificate_texts.SpellsAny (verdict_text s.verdict s.drawn x s.cert) (in_form (whole style) s.cert)) (whole_twice style) s.certificate in
+    let certificate = subst (λ (l : List ℕ). certificate_texts.SpellsAny l (in_form (whole style) s.cert)) (sym names) spelled_so in (
       s.verdict,
       record {
         drawn = s.drawn;
+        style = whole style;
         cert = s.cert;
         names = names;
-        accepted = (h.few, s.a, s.cert, record { rest = text; deck = here; certificate = certificate }, s.accepted);
+        accepted = (h.few, s.a, in_form (whole style) s.cert, record { rest = text; deck = here; certificate = certificate }, s.accepted);
       },
     )
 

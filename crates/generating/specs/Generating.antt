@@ -7,6 +7,7 @@ use Rattle.command.specs.declared.refusal.Refusal.TheVariants.{NoMemory}
 use Rattle.deck_gen.specs.Generator.{IsInRange, deck_text}
 use Rattle.deck_gen.specs.declared.sizes.Sizes.{Sizes}
 use Rattle.play.specs.declared.event.Options.{Options}
+use Rattle.report.specs.declared.style.Style.TheVariants.{Brief}
 use Rattle.solving.specs.Solving.{Says}
 
 abbrev pub IsDrafted : Sizes → Type 0
@@ -25,5 +26,5 @@ IsGenerated z taken_before taken_now before now status =
 -- a brief run of the solver over a source with this text alone
 abbrev pub IsGeneratedAndSolved : Options → Sizes → Option (List ℕ) → Option (List ℕ) → ℕ → ℕ → ℕ → Type 0
 IsGeneratedAndSolved o z taken_before taken_now before now status =
-    ((faults : ℕ) × (faults_now : ℕ) × IsRun (Says o true) (Some (deck_text z)) faults faults_now taken_before taken_now before now status)
+    ((faults : ℕ) × (faults_now : ℕ) × IsRun (Says o Brief) (Some (deck_text z)) faults faults_now taken_before taken_now before now status)
     ⊎ IsOutOfMemory taken_before taken_now before now status

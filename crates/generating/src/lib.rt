@@ -8,6 +8,7 @@ use command::{Status, give, give_no_memory};
 use deck_gen::deck;
 use lp_io::{MemSource, Sink};
 use play::Options;
+use report::Style;
 use solving::run_solve;
 use std::alloc::Global;
 
@@ -51,7 +52,7 @@ pub fn generate_and_solve<K: Sink>(
     match deck(alloc, seed, columns, rows, pairs) {
         Ok(text) => {
             let mut source = MemSource::over(text, STEP, Vec::new(alloc));
-            run_solve(alloc, options, true, &mut source, out)
+            run_solve(alloc, options, Style::Brief, &mut source, out)
         }
         Err(_) => give_no_memory(out),
     }

@@ -2,6 +2,7 @@
 use lp_io::{MemSink, MemSource};
 use play::{Options, ShrinkMode, Workers};
 use relaxing::relax;
+use report::Style;
 use solving::run_solve;
 use std::alloc::Global;
 use std::test::Fail;
@@ -38,7 +39,7 @@ pub fn run(
     let status = match command {
         Command::Check => verify(alloc, &mut source, &mut sink),
         Command::Relax => relax(alloc, BUDGET, &mut source, &mut sink),
-        Command::Solve => run_solve(alloc, &options(), false, &mut source, &mut sink),
+        Command::Solve => run_solve(alloc, &options(), Style::Two, &mut source, &mut sink),
     };
     let text = String::from_utf8(sink.bytes)
         .ok()

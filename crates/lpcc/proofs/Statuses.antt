@@ -24,6 +24,8 @@ use Rattle.play.specs.declared.ending.Ending.TheVariants as ending
 use Rattle.relaxing.specs.Relaxing as relaxing
 use Rattle.report.specs.Endings as endings
 use Rattle.report.specs.Relaxations as relaxations
+use Rattle.report.specs.declared.style.Style.{Style}
+use Rattle.report.specs.declared.style.Style.TheVariants.{Brief}
 use Rattle.report.specs.declared.relaxation.Relaxation.{Relaxation}
 use Rattle.report.specs.declared.relaxation.Relaxation.TheVariants as relaxation
 use Rattle.solving.specs.Solving as solving
@@ -34,7 +36,7 @@ use Rattle.words.specs.declared.command.Draft.{Draft}
 use Rattle.words.specs.declared.command.Settings.{Settings}
 use Rattle.verifier.specs.declared.answer.Answer.TheVariants.{Refused}
 use Rattle.lpcc.specs.Answers.{Answers, words_refused}
-use Rattle.lpcc.specs.Commands.{IsCommand, IsNoCommand, Runs, sizes_of, usual}
+use Rattle.lpcc.specs.Commands.{IsCommand, IsNoCommand, Runs, sizes_of, style_of, usual}
 
 -- ---- one command
 
@@ -85,8 +87,8 @@ ending_not_two (ending.PivotsSpent piece place) e = omega arith
 ending_not_two (ending.PiecesSpent drawn left) e = omega arith
 ending_not_two ending.NoMemory e = omega arith
 
-solve_not_two : (o : Options) (brief : Bool) (left : Option (List ℕ)) (rb rn : ℕ) (tb tn : Option (List ℕ)) (wb wn : ℕ) → IsRun (solving.Says o brief) left rb rn tb tn wb wn 2 → ⊥
-solve_not_two o brief left rb rn tb tn wb wn run = run_not_two (solving.Says o brief) left rb rn tb tn wb wn (λ a text meant says e. ending_not_two says.end (e ∙ says.status_is)) run
+solve_not_two : (o : Options) (style : Style) (left : Option (List ℕ)) (rb rn : ℕ) (tb tn : Option (List ℕ)) (wb wn : ℕ) → IsRun (solving.Says o style) left rb rn tb tn wb wn 2 → ⊥
+solve_not_two o style left rb rn tb tn wb wn run = run_not_two (solving.Says o style) left rb rn tb tn wb wn (λ a text meant says e. ending_not_two says.end (e ∙ says.status_is)) run
 
 memory_not_two : (tb tn : Option (List ℕ)) (wb wn : ℕ) → IsOutOfMemory tb tn wb wn 2 → ⊥
 memory_not_two tb tn wb wn w = written_not_two tb tn wb wn (refusals.text_of NoMemory) 6 (λ e. omega arith) w
@@ -96,7 +98,7 @@ plain_not_two z tb tn wb wn (inl w) = written_not_two tb tn wb wn (deck_text z) 
 plain_not_two z tb tn wb wn (inr w) = memory_not_two tb tn wb wn w
 
 solved_not_two : (z : Sizes) (tb tn : Option (List ℕ)) (wb wn : ℕ) → IsGeneratedAndSolved usual z tb tn wb wn 2 → ⊥
-solved_not_two z tb tn wb wn (inl w) = solve_not_two usual true (Some (deck_text z)) w.0 w.1 tb tn wb wn w.2
+solved_not_two z tb tn wb wn (inl w) = solve_not_two usual Brief (Some (deck_text z)) w.0 w.1 tb tn wb wn w.2
 solved_not_two z tb tn wb wn (inr w) = memory_not_two tb tn wb wn w
 
 made_not_two : (o : Settings → Options) (draft : Draft) (left : Option (List ℕ)) (rb rn : ℕ) (tb tn : Option (List ℕ)) (wb wn : ℕ) (b : Bool) → draft.solve ≡ b → Runs o (Generate draft) left rb rn tb tn wb wn 2 → ⊥
@@ -127,7 +129,7 @@ NotTwo = (left : Option (List ℕ)) (rb rn : ℕ) (tb tn : Option (List ℕ)) (w
 not_two : (o : Settings → Options) → NotTwo → (c : Command) (left : Option (List ℕ)) (rb rn : ℕ) (tb tn : Option (List ℕ)) (wb wn : ℕ) → Runs o c left rb rn tb tn wb wn 2 → ⊥
 not_two o law Check left rb rn tb tn wb wn run = law left rb rn tb tn wb wn 2 run.0 refl
 not_two o law (Relax q) left rb rn tb tn wb wn run = run_not_two (relaxing.Says q) left rb rn tb tn wb wn (λ a text meant says e. relaxation_not_two says.end (e ∙ says.status_is)) run.0
-not_two o law (Solve s) left rb rn tb tn wb wn run = solve_not_two (o s) s.brief left rb rn tb tn wb wn run.0
+not_two o law (Solve s) left rb rn tb tn wb wn run = solve_not_two (o s) (style_of s) left rb rn tb tn wb wn run.0
 not_two o law (Generate d) left rb rn tb tn wb wn run = made_not_two o d left rb rn tb tn wb wn d.solve refl run
 not_two o law (Lcp solve) left rb rn tb tn wb wn run = lcp_not_two left rb rn tb tn wb wn solve solve refl o run
 not_two o law (Bilevel solve) left rb rn tb tn wb wn run = bilevel_not_two left rb rn tb tn wb wn solve solve refl o run
@@ -140,10 +142,10 @@ never_two o law c left rb rn tb tn wb wn status run two = not_two o law c left r
 pub at_command : (o : Settings → Options) (c d : Command) (left : Option (List ℕ)) (rb rn : ℕ) (tb tn : Option (List ℕ)) (wb wn status : ℕ) → c ≡ d → Runs o d left rb rn tb tn wb wn status → Runs o c left rb rn tb tn wb wn status
 at_command o c d left rb rn tb tn wb wn status e run = subst (λ (x : Command). Runs o x left rb rn tb tn wb wn status) (sym e) run
 
-pub of_solve : (how : Settings → Options) (s : Settings) (o : Options) (left : Option (List ℕ)) (rb rn : ℕ) (tb tn : Option (List ℕ)) (wb wn status : ℕ) → o ≡ how s → IsRun (solving.Says o s.brief) left rb rn tb tn wb wn status → (status ≡ 0 → (bytes : List ℕ) → left ≡ Some bytes → solving.SaysVerdict bytes o s.brief tb tn) → ((bytes : List ℕ) → left ≡ Some bytes → (a : Instance) → SpellsAlone bytes a → solving.AreEnough a o → status ≡ 8 → ⊥) → Runs how (Solve s) left rb rn tb tn wb wn status
-of_solve how s o left rb rn tb tn wb wn status e answered verdict enough = (
-  subst (λ (x : Options). IsRun (solving.Says x s.brief) left rb rn tb tn wb wn status) e answered,
-  λ zero bytes told. subst (λ (x : Options). solving.SaysVerdict bytes x s.brief tb tn) e (verdict zero bytes told),
+pub of_solve : (how : Settings → Options) (s : Settings) (o : Options) (style : Style) (left : Option (List ℕ)) (rb rn : ℕ) (tb tn : Option (List ℕ)) (wb wn status : ℕ) → o ≡ how s → style ≡ style_of s → IsRun (solving.Says o style) left rb rn tb tn wb wn status → (status ≡ 0 → (bytes : List ℕ) → left ≡ Some bytes → solving.SaysVerdict bytes o style tb tn) → ((bytes : List ℕ) → left ≡ Some bytes → (a : Instance) → SpellsAlone bytes a → solving.AreEnough a o → status ≡ 8 → ⊥) → Runs how (Solve s) left rb rn tb tn wb wn status
+of_solve how s o style left rb rn tb tn wb wn status e same answered verdict enough = (
+  subst (λ (y : Style). IsRun (solving.Says (how s) y) left rb rn tb tn wb wn status) same (subst (λ (x : Options). IsRun (solving.Says x style) left rb rn tb tn wb wn status) e answered),
+  λ zero bytes told. subst (λ (y : Style). solving.SaysVerdict bytes (how s) y tb tn) same (subst (λ (x : Options). solving.SaysVerdict bytes x style tb tn) e (verdict zero bytes told)),
   λ bytes told a spelled many. enough bytes told a spelled (subst (λ (x : Options). solving.AreEnough a x) (sym e) many),
 )
 
@@ -198,7 +200,7 @@ of_memory how (Relax q) left count tb tn wb wn status short =
     (short_run (relaxing.Says q) left count tb tn wb wn status short, λ zero. absurd (is_other 0 status (λ e. omega arith) (λ e. omega arith) five_six zero), λ bytes told a spelled many eight. is_other 8 status (λ e. omega arith) (λ e. omega arith) five_six eight)
 of_memory how (Solve s) left count tb tn wb wn status short =
     let five_six = five_or_six tb tn wb wn status short in
-    (short_run (solving.Says (how s) s.brief) left count tb tn wb wn status short, λ zero. absurd (is_other 0 status (λ e. omega arith) (λ e. omega arith) five_six zero), λ bytes told a spelled many eight. is_other 8 status (λ e. omega arith) (λ e. omega arith) five_six eight)
+    (short_run (solving.Says (how s) (style_of s)) left count tb tn wb wn status short, λ zero. absurd (is_other 0 status (λ e. omega arith) (λ e. omega arith) five_six zero), λ bytes told a spelled many eight. is_other 8 status (λ e. omega arith) (λ e. omega arith) five_six eight)
 of_memory how (Generate d) left count tb tn wb wn status short = (λ off. inr short, λ on. inr short)
 of_memory how (Lcp solve) left count tb tn wb wn status short =
     let five_six = five_or_six tb tn wb wn status short in

@@ -13,6 +13,8 @@ use Rattle.front_solving.specs.Solving.{IsBilevelAnswered, IsLcpAnswered, SaysOf
 use Rattle.play.specs.declared.event.Options.{Options}
 use Rattle.play.specs.declared.event.ShrinkMode.TheVariants.{Full, Off}
 use Rattle.relaxing.specs.Relaxing as relaxing
+use Rattle.report.specs.declared.style.Style.{Style}
+use Rattle.report.specs.declared.style.Style.TheVariants.{Brief, Two}
 use Rattle.solving.specs.Solving as solving
 use Rattle.verifier.specs.Runs.{IsChecked, SaysYes}
 use Rattle.words.specs.Commands.{command_of}
@@ -51,6 +53,10 @@ as_asked s = record { workers = s.workers; pieces = s.pieces; pivots = s.pivots;
 -- with one worker, whatever number of workers the words name
 abbrev pub by_one_worker : Settings → Options
 by_one_worker s = record (as_asked s) { workers = 1 }
+
+-- what is written of a verdict: its certificate in form 2, unless it is to be brief
+abbrev pub style_of : Settings → Style
+style_of s = if s.brief then Brief else Two
 
 abbrev pub usual : Options
 usual = record { workers = 1; pieces = USUAL_PIECES; pivots = USUAL_PIVOTS; shrink = Full }
@@ -94,8 +100,8 @@ Runs options_of (Relax pivots) left rb rn tb tn wb wn status =
     × (status ≡ 0 → (bytes : List ℕ) → left ≡ Some bytes → relaxing.SaysVerdict bytes tb tn)
     × ((bytes : List ℕ) → left ≡ Some bytes → (a : Instance) → SpellsAlone bytes a → relaxing.AreEnough a pivots → status ≡ 8 → ⊥)
 Runs options_of (Solve settings) left rb rn tb tn wb wn status =
-    IsRun (solving.Says (options_of settings) settings.brief) left rb rn tb tn wb wn status
-    × (status ≡ 0 → (bytes : List ℕ) → left ≡ Some bytes → solving.SaysVerdict bytes (options_of settings) settings.brief tb tn)
+    IsRun (solving.Says (options_of settings) (style_of settings)) left rb rn tb tn wb wn status
+    × (status ≡ 0 → (bytes : List ℕ) → left ≡ Some bytes → solving.SaysVerdict bytes (options_of settings) (style_of settings) tb tn)
     × ((bytes : List ℕ) → left ≡ Some bytes → (a : Instance) → SpellsAlone bytes a → solving.AreEnough a (options_of settings) → status ≡ 8 → ⊥)
 Runs options_of (Generate draft) left rb rn tb tn wb wn status =
     (draft.solve ≡ false → IsGenerated (sizes_of draft) tb tn wb wn status)

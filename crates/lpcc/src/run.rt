@@ -3,7 +3,7 @@ ghost use Rattle.std.specs.Prelude.{◌≡◌, ◌↔◌, ◌≤◌, ◌⊎◌, 
 ghost use Rattle.command.specs.Answers.{IsWritten};
 ghost use Rattle.deck_gen.specs.Generator.{IsInRange};
 ghost use Rattle.lpcc.specs.Answers.{Answers, IsUnread, words_refused};
-ghost use Rattle.lpcc.specs.Commands.{IsCommand, IsNoCommand, IsPossible, ReadsNothing, Runs, as_asked, by_one_worker, usual};
+ghost use Rattle.lpcc.specs.Commands.{IsCommand, IsNoCommand, IsPossible, ReadsNothing, Runs, as_asked, by_one_worker, style_of, usual};
 ghost use Rattle.words.specs.declared.command.Command.{Command as Request};
 ghost use Rattle.words.specs.declared.command.Command.TheVariants.{Bilevel, Generate, Lcp, Solve};
 ghost use Rattle.words.specs.declared.command.Draft.{Draft as Plan};
@@ -16,6 +16,7 @@ use generating::{generate, generate_and_solve};
 use lp_io::{Sink, Source};
 use play::{Options, ShrinkMode, Workers};
 use relaxing::relax;
+use report::Style;
 use solving::{run_solve, run_solve_with};
 use std::alloc::{AllocError, Global};
 use std::io;
@@ -68,6 +69,17 @@ fn options_of(settings: Settings) -> Options
         } else {
             ShrinkMode::Off
         },
+    }
+}
+
+// What is written of a verdict.
+fn style_of(settings: Settings) -> Style
+    ensures { result ≡ style_of settings }
+{
+    if settings.brief {
+        Style::Brief
+    } else {
+        Style::Two
     }
 }
 
@@ -142,7 +154,7 @@ fn run_command<S: Source, K: Sink>(
         Command::Check => verify(alloc, src, out),
         Command::Relax(pivots) => relax(alloc, pivots, src, out),
         Command::Solve(settings) => {
-            run_solve(alloc, &options_of(settings), settings.brief, src, out)
+            run_solve(alloc, &options_of(settings), style_of(settings), src, out)
         }
         Command::Generate(draft) => run_draft(alloc, draft, out),
         Command::Lcp { solve } => run_lcp(alloc, solve, src, out),
@@ -210,8 +222,8 @@ fn run_solve_as_asked<R: Threads + Wait + Sync, S: Source, K: Sink, G: Gate + Sy
         (K.taken out.old) (K.taken out.new) (K.faults out.old) (K.faults out.new) result }
 {
     match many_workers(settings) {
-        Some(options) => run_solve_with(rt, alloc, &options, settings.brief, gate, src, out),
-        None => run_solve(alloc, &options_of(settings), settings.brief, src, out),
+        Some(options) => run_solve_with(rt, alloc, &options, style_of(settings), gate, src, out),
+        None => run_solve(alloc, &options_of(settings), style_of(settings), src, out),
     }
 }
 

@@ -19,6 +19,7 @@ fn called_words(rt: &HostRuntime) -> io::Result<Vec<String>> {
 fn main(rt: HostRuntime) -> ExitCode {
     let mut source = StdSource::over(rt.reader());
     let mut sink = StdSink::over(io::writer(&rt));
-    let status = run_called(rt.alloc(), called_words(&rt), &mut source, &mut sink);
+    let called = called_words(&rt);
+    let status = run_called(&rt, rt.alloc(), called, &mut source, &mut sink);
     ExitCode::from(status)
 }

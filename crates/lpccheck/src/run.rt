@@ -7,7 +7,8 @@ use command::{Status, give, give_no_memory};
 use lp_io::{Sink, Source};
 use std::alloc::Global;
 use std::io;
-use verifier::{a_status_tells_the_answer, verify};
+use std::thread::Threads;
+use verifier::{a_status_tells_the_answer, verify, verify_many};
 
 /// The status where there are words.
 const WORDS_REFUSED: Status = 2;
@@ -42,8 +43,33 @@ pub fn run_check<S: Source, K: Sink>(
     }
 }
 
-/// Runs the program on the words that it was called with, its name first, as `run_check` does.
-pub fn run_called<S: Source, K: Sink>(
+/// Runs the program as `run_check` does, with cuts tested in as many threads as there are processors.
+/// It does not wait, and always returns.
+pub fn run_check_many<R: Threads + Sync, S: Source, K: Sink>(
+    rt: &R,
+    alloc: Global,
+    words: &[String],
+    src: &mut S,
+    out: &mut K,
+) -> Status
+    // Words are refused. Without words one answer is right, and it is written; status 0 is `yes`.
+    ensures answers { Answers words.now (S.left src.old) (S.faults src.old) (S.faults src.new)
+        (K.taken out.old) (K.taken out.new) (K.faults out.old) (K.faults out.new) result }
+
+    // Where there are words, nothing is read.
+    ensures untouched { (words.now ≡ [] → ⊥) → src.new ≡ src.old }
+{
+    a_status_tells_the_answer();
+    if words.is_empty() {
+        verify_many(rt, alloc, src, out)
+    } else {
+        refuse_words(out)
+    }
+}
+
+/// Runs the program on the words that it was called with, its name first, as `run_check_many` does.
+pub fn run_called<R: Threads + Sync, S: Source, K: Sink>(
+    rt: &R,
     alloc: Global,
     called: io::Result<Vec<String>>,
     src: &mut S,
@@ -59,8 +85,8 @@ pub fn run_called<S: Source, K: Sink>(
 {
     match called {
         Ok(words) => match words.as_slice() {
-            [] => run_check(alloc, &[], src, out),
-            [_, words @ ..] => run_check(alloc, words, src, out),
+            [] => run_check_many(rt, alloc, &[], src, out),
+            [_, words @ ..] => run_check_many(rt, alloc, words, src, out),
         },
         Err(fault) => {
             if fault.kind() == io::ErrorKind::OutOfMemory {

@@ -4,15 +4,20 @@ ghost use Rattle.lpcc_case.specs.Values.{IsValue};
 ghost use Rattle.cert_text.specs.Certs.{KeepsForm};
 ghost use Rattle.cert_text.specs.Spelling.{choice_word};
 ghost use Rattle.cert_check.specs.Acceptance.{Claims};
-ghost use Rattle.report.specs.Endings.{CanBeWritten, IsTextOf, choices_text, comments, drawn_line, overflow_text, piece_text, pieces_text, pivots_text, status_of, verdict_line, verdict_text};
+ghost use Rattle.cert2_text.specs.Spelling2.{spelling2};
+ghost use Rattle.migrating.specs.Migration.{migrated};
+ghost use Rattle.report.specs.Endings.{CanBeWritten, IsTextOf, certificate_text, choices_text, comments, drawn_line, overflow_text, piece_text, pieces_text, pivots_text, status_of, verdict_line, verdict_text};
 
 use crate::forms::{form_text, push_forms};
+use crate::style::Style;
 use cert_text::Cert;
 use cert_write::write_cert;
+use cert2_write::write_cert2;
 use cuts::{SpentAt, WideAt};
 use lp_base::Sequence;
 use lp_nums::Frac;
 use lpcc_case::{Case, Point, Verdict, value_of};
+use migrating::migrate;
 use nogoods::{Piece, Side};
 use play::Ending;
 use std::alloc::{AllocError, Global};
@@ -141,26 +146,45 @@ fn text_of_comments(alloc: Global, verdict: Verdict, drawn: u64) -> Result<Strin
     Ok(text)
 }
 
+// The text of the certificate in form 2.
+fn text_in_form_2(alloc: Global, cert: &Cert) -> Result<Vec<u8>, AllocError>
+    requires { KeepsForm cert.now }
+    ensures { IfOk result (λ text. text.items ≡ spelling2 (migrated cert.now)) }
+{
+    let made = migrate(alloc, cert)?;
+    write_cert2(alloc, &made)
+}
+
+// The text of the certificate, if there is to be one.
+fn text_of_certificate(alloc: Global, style: Style, cert: &Cert) -> Result<Vec<u8>, AllocError>
+    requires { KeepsForm cert.now }
+    ensures { IfOk result (λ text. text.items ≡ certificate_text style cert.now) }
+{
+    match style {
+        Style::Brief => Ok(Vec::new(alloc)),
+        Style::One => write_cert(alloc, cert),
+        Style::Two => text_in_form_2(alloc, cert),
+    }
+}
+
 fn text_of_verdict(
     alloc: Global,
     verdict: Verdict,
     drawn: u64,
-    brief: bool,
+    style: Style,
     cert: &Cert,
 ) -> Result<Vec<u8>, AllocError>
     requires { KeepsForm cert.now }
-    ensures { IfOk result (λ text. text.items ≡ verdict_text verdict drawn brief cert.now) }
+    ensures { IfOk result (λ text. text.items ≡ verdict_text verdict drawn style cert.now) }
 {
     let mut text = text_of_comments(alloc, verdict, drawn)?.into_bytes();
-    if !brief {
-        text.extend_from_slice(write_cert(alloc, cert)?.as_slice())?;
-    }
+    text.extend_from_slice(text_of_certificate(alloc, style, cert)?.as_slice())?;
     Ok(text)
 }
 
 /// The whole text of an ending of a run over the case: that of a verdict is two comment lines with
-/// its value and the number of pieces drawn, and behind them the certificate, unless it is to be
-/// brief; every other one is a line that names what happened.
+/// its value and the number of pieces drawn, and behind them the certificate in its form, unless it
+/// is to be brief; every other one is a line that names what happened.
 ///
 /// # Errors
 ///
@@ -169,14 +193,14 @@ pub fn text_of(
     alloc: Global,
     case: &Case,
     ending: &Ending,
-    brief: bool,
+    style: Style,
 ) -> Result<Vec<u8>, AllocError>
     requires { CanBeWritten ending.now }
-    ensures { IfOk result (λ text. IsTextOf case.now brief ending.now text.items) }
+    ensures { IfOk result (λ text. IsTextOf case.now style ending.now text.items) }
 {
     match ending {
         Ending::Verdict { cert, drawn } => {
-            text_of_verdict(alloc, claimed(alloc, case, cert), *drawn, brief, cert)
+            text_of_verdict(alloc, claimed(alloc, case, cert), *drawn, style, cert)
         },
         Ending::Overflow { piece, at } => Ok(text_of_overflow(alloc, piece, at)?.into_bytes()),
         Ending::PivotsSpent { piece, at } => Ok(text_of_pivots(alloc, piece, *at)?.into_bytes()),

@@ -4,7 +4,9 @@
 mod ending;
 mod forms;
 mod relaxation;
+mod style;
 
 pub use ending::{status_of, text_of};
 pub use forms::{form_text, push_forms};
 pub use relaxation::Relaxation;
+pub use style::Style;

@@ -19,6 +19,11 @@ use Rattle.cert_text.specs.Texts.{Spells}
 use Rattle.cert_text.proofs.Joined.{IsInLine, line_in_line, lines_joined}
 use Rattle.cert_text.proofs.Numbers.{IsPlain, plain_decimal, plain_signed}
 use Rattle.cert_text.proofs.Plain.{ArePlain, good_cert}
+use Rattle.cert2_text.specs.declared.cert2.Cert2.{Cert2}
+use Rattle.cert2_text.specs.Spelling2.{cert2_lines, cert2_words, spelling2}
+use Rattle.cert2_text.specs.Texts2.{Spells2}
+use Rattle.cert2_text.proofs.Plain2.{good_cert2}
+use Rattle.report.specs.declared.style.Style.TheVariants.{One}
 use Rattle.report.specs.Endings.{comments, verdict_line, verdict_text}
 
 -- ---- the comments as lines of words
@@ -108,17 +113,31 @@ cut_behind c ls h =
 cert_in_lines : (c : Cert) → All IsInLine (cert_lines c)
 cert_in_lines c = All-map IsInLine line_bytes (cert_words c) (λ i d lt. line_in_line (get_or (cert_words c) i d) (good_cert c i d lt).0)
 
-pub comments_spell : (v : Verdict) (n : ℕ) (c : Cert) → Spells (spelling c) c → Spells (verdict_text v n false c) c
-comments_spell v n c h =
+cert2_in_lines : (c : Cert2) → All IsInLine (cert2_lines c)
+cert2_in_lines c = All-map IsInLine line_bytes (cert2_words c) (λ i d lt. line_in_line (get_or (cert2_words c) i d) (good_cert2 c i d lt).0)
+
+-- the comments in front of lines leave their content, and whether they end with LF
+abbrev SameBehind : Verdict → ℕ → List (List ℕ) → Type 0
+SameBehind v n ls = (content (comments v n ++ text_of ls) ≡ content (text_of ls)) × (is_cut (comments v n ++ text_of ls) ≡ is_cut (text_of ls))
+
+same_behind : (v : Verdict) (n : ℕ) (ls : List (List ℕ)) → All IsInLine ls → SameBehind v n ls
+same_behind v n ls h =
     let first = line_bytes (verdict_words v) in
     let second = line_bytes (drawn_words n) in
-    let inner = All-cons IsInLine second (cert_lines c) (line_in_line (drawn_words n) (plain_drawn n)) (cert_in_lines c) in
-    let outer = All-cons IsInLine first (second ∷ cert_lines c) (line_in_line (verdict_words v) (plain_verdict v)) inner in
-    let joined : text_of (comment_lines v n ++ cert_lines c) ≡ text_of (comment_lines v n) ++ spelling c = flat_map-append (λ line. line ++ 10 ∷ []) (comment_lines v n) (cert_lines c) in
-    let here : Spells (text_of (first ∷ second ∷ cert_lines c)) c = record {
-      form = h.form;
-      few = h.few;
-      lines = content_behind first (second ∷ cert_lines c) (is_star v) outer ∙ content_behind second (cert_lines c) refl inner ∙ h.lines;
-      whole = cut_behind first (second ∷ cert_lines c) outer ∙ cut_behind second (cert_lines c) inner ∙ h.whole;
-    } in
-    subst (λ t. Spells t c) (joined ∙ ap (λ l. l ++ spelling c) (sym (as_lines v n))) here
+    let inner = All-cons IsInLine second ls (line_in_line (drawn_words n) (plain_drawn n)) h in
+    let outer = All-cons IsInLine first (second ∷ ls) (line_in_line (verdict_words v) (plain_verdict v)) inner in
+    let joined : text_of (comment_lines v n ++ ls) ≡ text_of (comment_lines v n) ++ text_of ls = flat_map-append (λ line. line ++ 10 ∷ []) (comment_lines v n) ls in
+    let here : comments v n ++ text_of ls ≡ text_of (first ∷ second ∷ ls) = ap (λ l. l ++ text_of ls) (as_lines v n) ∙ sym joined in (
+      ap content here ∙ content_behind first (second ∷ ls) (is_star v) outer ∙ content_behind second ls refl inner,
+      ap is_cut here ∙ cut_behind first (second ∷ ls) outer ∙ cut_behind second ls inner,
+    )
+
+pub comments_spell : (v : Verdict) (n : ℕ) (c : Cert) → Spells (spelling c) c → Spells (verdict_text v n One c) c
+comments_spell v n c h =
+    let same = same_behind v n (cert_lines c) (cert_in_lines c) in
+    record { form = h.form; few = h.few; lines = same.0 ∙ h.lines; whole = same.1 ∙ h.whole }
+
+pub comments_spell2 : (v : Verdict) (n : ℕ) (c : Cert2) → Spells2 (spelling2 c) c → Spells2 (comments v n ++ spelling2 c) c
+comments_spell2 v n c h =
+    let same = same_behind v n (cert2_lines c) (cert2_in_lines c) in
+    record { form = h.form; few = h.few; lines = same.0 ∙ h.lines; whole = same.1 ∙ h.whole }

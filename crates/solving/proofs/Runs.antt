@@ -1,5 +1,5 @@
 -- What a run of the command says.
-use Rattle.std.proofs.Common.{ℕ, ◌<◌, ◌^◌, ◌≡◌, ◌∙◌, refl, sym, ap, subst, arith, Bool, false, List, Option, Some, ◌⊎◌, inl, inr}
+use Rattle.std.proofs.Common.{ℕ, ◌<◌, ◌^◌, ◌≡◌, ◌∙◌, refl, sym, ap, subst, arith, List, Option, Some, ◌⊎◌, inl, inr}
 use Rattle.std.specs.Prelude.{◌↔◌, Result, Ok, Err, length}
 use Rattle.std.specs.Io.KnownBytes.{Appends}
 use Rattle.lpcc_case.specs.Instance.{Instance}
@@ -8,6 +8,14 @@ use Rattle.lpcc_case.specs.declared.verdict.Verdict.{Verdict}
 use Rattle.cert_text.specs.Certs.{KeepsForm, lines_of}
 use Rattle.cert_text.specs.declared.cert.Cert.{Cert}
 use Rattle.cert_text.proofs.Certificates.{spelling_spells}
+use Rattle.cert_check.specs.Acceptance.{Accepts}
+use Rattle.cert2_text.specs.declared.cert2.AnyCert.TheVariants as either
+use Rattle.cert2_text.specs.Texts2.{SpellsAny}
+use Rattle.cert2_text.proofs.Certificates2.{spelling_spells as spelling_spells2}
+use Rattle.cert2_check.specs.Acceptance2.{AcceptsAny}
+use Rattle.migrating.specs.Migration.{migrated}
+use Rattle.migrating.proofs.Accepting.{accepted_alike}
+use Rattle.migrating.proofs.Keeping.{counts_alike, keeps_form}
 use Rattle.decks.specs.Decks.{IsDeck}
 use Rattle.decks.specs.Texts.{Spells}
 use Rattle.decks.specs.declared.deck.Deck as decks
@@ -25,9 +33,11 @@ use Rattle.command.specs.Runs.{IsRun}
 use Rattle.command.specs.declared.reading.TheConstants.{MOST_DECK_BYTES}
 use Rattle.command.specs.declared.refusal.Refusal.{Refusal}
 use Rattle.command.proofs.CaseRuns.{Told, eight_is_other, told, zero_is_other}
-use Rattle.report.specs.Endings.{CanBeWritten, IsTextOf, status_of, verdict_text}
+use Rattle.report.specs.declared.style.Style.{Style}
+use Rattle.report.specs.declared.style.Style.TheVariants.{Brief, One, Two}
+use Rattle.report.specs.Endings.{CanBeWritten, IsTextOf, in_form, status_of, verdict_text, whole}
 use Rattle.solving.specs.Solving.{AreEnough, HasFewLines, Says, SaysVerdict}
-use Rattle.solving.proofs.Comments.{comments_spell}
+use Rattle.solving.proofs.Comments.{comments_spell, comments_spell2}
 
 -- what the crates below promise of decks
 pub record Laws : Type 0 where
@@ -76,8 +86,22 @@ true_of_bytes l bytes a v spelled truth =
       is_true = (l.same_truth s.deck a v (l.decks_keep bytes s.deck s.place s.spelled) s.case).0 truth;
     }
 
-verdict_said : Laws → (bytes : List ℕ) (o : Options) (brief : Bool) (tb tn : Option (List ℕ)) (a : Instance) (cert : Cert) (drawn : ℕ) (text : List ℕ) → SpellsAlone bytes a → IsShown a o cert drawn → length (lines_of cert) < 2 ^ 64 → IsTextOf a brief (ending.Verdict cert drawn) text → Appends tb tn text → SaysVerdict bytes o brief tb tn
-verdict_said l bytes o brief tb tn a cert drawn text spelled shown few text_is written =
+accepted_in : (style : Style) (a : Instance) (cert : Cert) (v : Verdict) → KeepsForm cert → Accepts a cert v → AcceptsAny a (in_form style cert) v
+accepted_in Brief a cert v form h = (accepted_alike a cert v form).0 h
+accepted_in One a cert v form h = record { passes = h.passes; claims = h.claims }
+accepted_in Two a cert v form h = (accepted_alike a cert v form).0 h
+
+spelled_two : (v : Verdict) (n : ℕ) (cert : Cert) → KeepsForm cert → length (lines_of cert) < 2 ^ 64 → SpellsAny (verdict_text v n Two cert) (either.Two (migrated cert))
+spelled_two v n cert form few =
+    comments_spell2 v n (migrated cert) (spelling_spells2 (migrated cert) (keeps_form cert form few) (subst (λ (k : ℕ). k < 2 ^ 64) (sym (counts_alike cert)) few))
+
+spelled_in : (style : Style) (v : Verdict) (n : ℕ) (cert : Cert) → KeepsForm cert → length (lines_of cert) < 2 ^ 64 → SpellsAny (verdict_text v n (whole style) cert) (in_form style cert)
+spelled_in Brief v n cert form few = spelled_two v n cert form few
+spelled_in One v n cert form few = comments_spell v n cert (spelling_spells cert form few)
+spelled_in Two v n cert form few = spelled_two v n cert form few
+
+verdict_said : Laws → (bytes : List ℕ) (o : Options) (style : Style) (tb tn : Option (List ℕ)) (a : Instance) (cert : Cert) (drawn : ℕ) (text : List ℕ) → SpellsAlone bytes a → IsShown a o cert drawn → length (lines_of cert) < 2 ^ 64 → IsTextOf a style (ending.Verdict cert drawn) text → Appends tb tn text → SaysVerdict bytes o style tb tn
+verdict_said l bytes o style tb tn a cert drawn text spelled shown few text_is written =
     let v = text_is.0 in
     record {
       verdict = v;
@@ -85,9 +109,9 @@ verdict_said l bytes o brief tb tn a cert drawn text spelled shown few text_is w
       a = a;
       spelled = spelled;
       cert = cert;
-      accepted = shown.accepted v text_is.1;
+      accepted = accepted_in style a cert v shown.form (shown.accepted v text_is.1);
       drawn = drawn;
-      certificate = comments_spell v drawn cert (spelling_spells cert shown.form few);
+      certificate = spelled_in style v drawn cert shown.form few;
       written = subst (λ (x : List ℕ). Appends tb tn x) text_is.2 written;
       events = shown.events;
       ending = shown.ending;
@@ -95,19 +119,19 @@ verdict_said l bytes o brief tb tn a cert drawn text spelled shown few text_is w
       distinct = shown.distinct;
     }
 
-pub says_verdict : Laws → (o : Options) (brief : Bool) (left : Option (List ℕ)) (rb rn : ℕ) (tb tn : Option (List ℕ)) (wb wn status : ℕ) (bytes : List ℕ) → IsRun (Says o brief) left rb rn tb tn wb wn status → left ≡ Some bytes → status ≡ 0 → SaysVerdict bytes o brief tb tn
-says_verdict l o brief left rb rn tb tn wb wn status bytes run is zero =
-    let t : Told (Says o brief) bytes tb tn 0 = told (Says o brief) left rb rn tb tn wb wn 0 bytes (subst (λ (n : ℕ). IsRun (Says o brief) left rb rn tb tn wb wn n) zero run) is zero_is_other in
+pub says_verdict : Laws → (o : Options) (style : Style) (left : Option (List ℕ)) (rb rn : ℕ) (tb tn : Option (List ℕ)) (wb wn status : ℕ) (bytes : List ℕ) → IsRun (Says o style) left rb rn tb tn wb wn status → left ≡ Some bytes → status ≡ 0 → SaysVerdict bytes o style tb tn
+says_verdict l o style left rb rn tb tn wb wn status bytes run is zero =
+    let t : Told (Says o style) bytes tb tn 0 = told (Says o style) left rb rn tb tn wb wn 0 bytes (subst (λ (n : ℕ). IsRun (Says o style) left rb rn tb tn wb wn n) zero run) is zero_is_other in
     let found = zero_is_verdict t.says.end (sym (t.status_is ∙ t.says.status_is)) in
-    verdict_said l bytes o brief tb tn t.a found.0 found.1 t.text t.cause.1 (t.says.shown found.0 found.1 found.2) (subst HasFewLines found.2 t.says.few) (subst (λ (x : Ending). IsTextOf t.a brief x t.text) found.2 t.says.text_is) t.written
+    verdict_said l bytes o style tb tn t.a found.0 found.1 t.text t.cause.1 (t.says.shown found.0 found.1 found.2) (subst HasFewLines found.2 t.says.few) (subst (λ (x : Ending). IsTextOf t.a style x t.text) found.2 t.says.text_is) t.written
 
 value_in : Instance → Result Instance Refusal → Instance
 value_in default (Ok a) = a
 value_in default (Err r) = default
 
-pub never_spent : ReadOnce → (o : Options) (brief : Bool) (left : Option (List ℕ)) (rb rn : ℕ) (tb tn : Option (List ℕ)) (wb wn status : ℕ) (bytes : List ℕ) (a : Instance) → IsRun (Says o brief) left rb rn tb tn wb wn status → left ≡ Some bytes → SpellsAlone bytes a → AreEnough a o → status ≡ 8 → ⊥
+pub never_spent : ReadOnce → (o : Options) (style : Style) (left : Option (List ℕ)) (rb rn : ℕ) (tb tn : Option (List ℕ)) (wb wn status : ℕ) (bytes : List ℕ) (a : Instance) → IsRun (Says o style) left rb rn tb tn wb wn status → left ≡ Some bytes → SpellsAlone bytes a → AreEnough a o → status ≡ 8 → ⊥
 unfolding value_in
-never_spent once o brief left rb rn tb tn wb wn status bytes a run is spelled enough eight =
-    let t : Told (Says o brief) bytes tb tn 8 = told (Says o brief) left rb rn tb tn wb wn 8 bytes (subst (λ (n : ℕ). IsRun (Says o brief) left rb rn tb tn wb wn n) eight run) is eight_is_other in
+never_spent once o style left rb rn tb tn wb wn status bytes a run is spelled enough eight =
+    let t : Told (Says o style) bytes tb tn 8 = told (Says o style) left rb rn tb tn wb wn 8 bytes (subst (λ (n : ℕ). IsRun (Says o style) left rb rn tb tn wb wn n) eight run) is eight_is_other in
     let same : a ≡ t.a = ap (value_in a) (once MOST_DECK_BYTES bytes (Ok a) (Ok t.a) (t.cause.0, spelled) t.cause) in
     never_eight t.a o t.says.end t.says.pieces t.says.pivots (subst (λ (x : Instance). AreEnough x o) same enough) (t.status_is ∙ t.says.status_is)

@@ -20,7 +20,7 @@ use engine::solve_alone;
 use lp_io::{Sink, Source};
 use lpcc_case::Case;
 use play::{Ending, Options, Workers};
-use report::{status_of, text_of};
+use report::{Style, status_of, text_of};
 use std::alloc::Global;
 
 // How many no-good lines the certificate of an ending has.
@@ -45,7 +45,7 @@ fn give_ending<K: Sink>(
     alloc: Global,
     case: &Case,
     options: &Options,
-    brief: bool,
+    style: Style,
     ending: &Ending,
     out: &mut K,
 ) -> Status
@@ -55,11 +55,11 @@ fn give_ending<K: Sink>(
     requires pieces { PiecesLast case.now options.now ending.now }
     requires pivots { PivotsLast case.now options.now ending.now }
     requires form { CanBeWritten ending.now }
-    ensures { IsWrittenFor (Says options.now brief) (Ok case.now) (K.taken out.old) (K.taken out.new) (K.faults out.old) (K.faults out.new) result
-        ⊎ IsWrittenFor (Says options.now brief) (Err refusal.NoMemory) (K.taken out.old) (K.taken out.new) (K.faults out.old) (K.faults out.new) result }
+    ensures { IsWrittenFor (Says options.now style) (Ok case.now) (K.taken out.old) (K.taken out.new) (K.faults out.old) (K.faults out.new) result
+        ⊎ IsWrittenFor (Says options.now style) (Err refusal.NoMemory) (K.taken out.old) (K.taken out.new) (K.faults out.old) (K.faults out.new) result }
 {
     let _lines = line_count(ending);
-    match text_of(alloc, case, ending, brief) {
+    match text_of(alloc, case, ending, style) {
         Ok(text) => give(text.as_slice(), status_of(ending), out),
         Err(_) => give_no_memory(out),
     }
@@ -77,7 +77,7 @@ pub(crate) fn give_solution<K: Sink>(
     alloc: Global,
     case: &Case,
     options: &Options,
-    brief: bool,
+    style: Style,
     ending: &Ending,
     out: &mut K,
 ) -> Status
@@ -85,13 +85,13 @@ pub(crate) fn give_solution<K: Sink>(
     requires shown { VerdictsAreShown case.now options.now ending.now }
     requires pieces { PiecesLast case.now options.now ending.now }
     requires pivots { PivotsLast case.now options.now ending.now }
-    ensures { IsWrittenFor (Says options.now brief) (Ok case.now) (K.taken out.old) (K.taken out.new) (K.faults out.old) (K.faults out.new) result
-        ⊎ IsWrittenFor (Says options.now brief) (Err refusal.NoMemory) (K.taken out.old) (K.taken out.new) (K.faults out.old) (K.faults out.new) result }
+    ensures { IsWrittenFor (Says options.now style) (Ok case.now) (K.taken out.old) (K.taken out.new) (K.faults out.old) (K.faults out.new) result
+        ⊎ IsWrittenFor (Says options.now style) (Err refusal.NoMemory) (K.taken out.old) (K.taken out.new) (K.faults out.old) (K.faults out.new) result }
 {
     if is_short(ending) {
         return give_no_memory(out);
     }
-    give_ending(alloc, case, options, brief, ending, out)
+    give_ending(alloc, case, options, style, ending, out)
 }
 
 // The same options for one worker.
@@ -109,34 +109,34 @@ fn solve_case<K: Sink>(
     alloc: Global,
     case: &Case,
     options: &Options,
-    brief: bool,
+    style: Style,
     out: &mut K,
 ) -> Status
-    ensures { IsWrittenFor (Says (alone options.now) brief) (Ok case.now) (K.taken out.old) (K.taken out.new) (K.faults out.old) (K.faults out.new) result
-        ⊎ IsWrittenFor (Says (alone options.now) brief) (Err refusal.NoMemory) (K.taken out.old) (K.taken out.new) (K.faults out.old) (K.faults out.new) result }
+    ensures { IsWrittenFor (Says (alone options.now) style) (Ok case.now) (K.taken out.old) (K.taken out.new) (K.faults out.old) (K.faults out.new) result
+        ⊎ IsWrittenFor (Says (alone options.now) style) (Err refusal.NoMemory) (K.taken out.old) (K.taken out.new) (K.faults out.old) (K.faults out.new) result }
 {
     let ending = solve_alone(alloc, case, options);
-    give_solution(alloc, case, &alone(options), brief, &ending, out)
+    give_solution(alloc, case, &alone(options), style, &ending, out)
 }
 
 /// Reads a deck alone, solves it with one worker, and writes the verdict with its certificate, or
-/// why there is none; answers the status that a program ends with. With `brief` the certificate is
-/// left out. It takes no handle, and always returns.
+/// why there is none; answers the status that a program ends with. It takes no handle, and always
+/// returns.
 pub fn run_solve<S: Source, K: Sink>(
     alloc: Global,
     options: &Options,
-    brief: bool,
+    style: Style,
     src: &mut S,
     out: &mut K,
 ) -> Status
     // The deck is refused exactly for its cause, or a record of a run over its case has this ending;
     // that is written.
-    ensures answered { IsRun (Says (alone options.now) brief) (S.left src.old) (S.faults src.old) (S.faults src.new)
+    ensures answered { IsRun (Says (alone options.now) style) (S.left src.old) (S.faults src.old) (S.faults src.new)
         (K.taken out.old) (K.taken out.new) (K.faults out.old) (K.faults out.new) result }
 
     // Status 0 is a verdict that is true of the deck, with a certificate that is accepted for it.
     ensures verdict { result ≡ 0 → (bytes : List ℕ) → S.left src.old ≡ Some bytes →
-        SaysVerdict bytes (alone options.now) brief (K.taken out.old) (K.taken out.new) }
+        SaysVerdict bytes (alone options.now) style (K.taken out.old) (K.taken out.new) }
 
     // With as many draws as there are pieces, and as many pivots as there are choices of the columns,
     // no budget is spent.
@@ -147,7 +147,7 @@ pub fn run_solve<S: Source, K: Sink>(
     spelled_decks_keep();
     verdicts_are_those_of_the_deck();
     match read_case(alloc, src, MOST_DECK_BYTES) {
-        Ok(case) => solve_case(alloc, &case, options, brief, out),
+        Ok(case) => solve_case(alloc, &case, options, style, out),
         Err(refusal) => give_refusal(alloc, refusal, out),
     }
 }

@@ -14,6 +14,7 @@ use decks::spelled_decks_keep;
 use lp_io::{Sink, Source};
 use lpcc_case::Case;
 use play::Options;
+use report::Style;
 use std::alloc::Global;
 use std::sync::Wait;
 use std::thread::Threads;
@@ -25,15 +26,15 @@ fn solve_case_with<R: Threads + Wait + Sync, K: Sink, G: Gate + Sync>(
     alloc: Global,
     case: &Case,
     options: &Options,
-    brief: bool,
+    style: Style,
     gate: &G,
     out: &mut K,
 ) -> Status
-    ensures { IsWrittenFor (Says options.now brief) (Ok case.now) (K.taken out.old) (K.taken out.new) (K.faults out.old) (K.faults out.new) result
-        ⊎ IsWrittenFor (Says options.now brief) (Err refusal.NoMemory) (K.taken out.old) (K.taken out.new) (K.faults out.old) (K.faults out.new) result }
+    ensures { IsWrittenFor (Says options.now style) (Ok case.now) (K.taken out.old) (K.taken out.new) (K.faults out.old) (K.faults out.new) result
+        ⊎ IsWrittenFor (Says options.now style) (Err refusal.NoMemory) (K.taken out.old) (K.taken out.new) (K.faults out.old) (K.faults out.new) result }
 {
     let ending = solve_with(rt, alloc, case, options, gate);
-    give_solution(alloc, case, options, brief, &ending, out)
+    give_solution(alloc, case, options, style, &ending, out)
 }
 
 /// Reads a deck alone, solves it with the workers of the options, and writes what `run_solve` writes.
@@ -42,19 +43,19 @@ pub fn run_solve_with<R: Threads + Wait + Sync, S: Source, K: Sink, G: Gate + Sy
     rt: &R,
     alloc: Global,
     options: &Options,
-    brief: bool,
+    style: Style,
     gate: &G,
     src: &mut S,
     out: &mut K,
 ) -> Status
     // The deck is refused exactly for its cause, or a record of a run over its case has this ending;
     // that is written.
-    ensures answered { IsRun (Says options.now brief) (S.left src.old) (S.faults src.old) (S.faults src.new)
+    ensures answered { IsRun (Says options.now style) (S.left src.old) (S.faults src.old) (S.faults src.new)
         (K.taken out.old) (K.taken out.new) (K.faults out.old) (K.faults out.new) result }
 
     // Status 0 is a verdict that is true of the deck, with a certificate that is accepted for it.
     ensures verdict { result ≡ 0 → (bytes : List ℕ) → S.left src.old ≡ Some bytes →
-        SaysVerdict bytes options.now brief (K.taken out.old) (K.taken out.new) }
+        SaysVerdict bytes options.now style (K.taken out.old) (K.taken out.new) }
 
     // With as many draws as there are pieces, and as many pivots as there are choices of the columns,
     // no budget is spent.
@@ -65,7 +66,7 @@ pub fn run_solve_with<R: Threads + Wait + Sync, S: Source, K: Sink, G: Gate + Sy
     spelled_decks_keep();
     verdicts_are_those_of_the_deck();
     match read_case(alloc, src, MOST_DECK_BYTES) {
-        Ok(case) => solve_case_with(rt, alloc, &case, options, brief, gate, out),
+        Ok(case) => solve_case_with(rt, alloc, &case, options, style, gate, out),
         Err(refusal) => give_refusal(alloc, refusal, out),
     }
 }

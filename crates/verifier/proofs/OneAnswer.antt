@@ -3,11 +3,11 @@ use Rattle.std.proofs.Common.{ℕ, ◌≡◌, ◌∙◌, refl, sym, ap, subst, L
 use Rattle.std.specs.Prelude.{pos, ◌≤ℤ◌}
 use Rattle.lpcc_case.specs.Instance.{Instance}
 use Rattle.lpcc_case.specs.declared.verdict.Verdict.{Verdict}
-use Rattle.cert_text.specs.declared.cert.Cert.{Cert}
+use Rattle.cert2_text.specs.declared.cert2.AnyCert.{AnyCert}
 use Rattle.cert_text.specs.declared.fault.CertWhy.{CertWhy}
-use Rattle.cert_text.specs.Texts as certificate_texts
+use Rattle.cert2_text.specs.Texts2 as certificate_texts
 use Rattle.cert_check.specs.declared.accept.NoWhy.{NoWhy}
-use Rattle.cert_check.specs.Acceptance.{Accepts, Refuses}
+use Rattle.cert2_check.specs.Acceptance2.{AcceptsAny, RefusesAny}
 use Rattle.command.specs.Inputs.{IsRefusal, IsTaken, SpellsCase}
 use Rattle.command.specs.declared.extent.Extent.{Extent}
 use Rattle.command.specs.declared.extent.Extent.TheVariants.{Prefix}
@@ -24,16 +24,16 @@ pub record Laws : Type 0 where
   pub case_or_refusal : (limit : ℕ) (e : Extent) (bytes : List ℕ) (a : Instance) (rest : List ℕ) (r : refusals.Refusal) → IsTaken limit bytes → SpellsCase e bytes a rest → IsRefusal limit e bytes r → ⊥
   pub one_input_refusal : (limit : ℕ) (e : Extent) (bytes : List ℕ) (r s : refusals.Refusal) → IsRefusal limit e bytes r → IsRefusal limit e bytes s → r ≡ s
   pub scale : (bytes : List ℕ) (a : Instance) (rest : List ℕ) → SpellsCase Prefix bytes a rest → pos 1 ≤ℤ a.scale
-  pub one_certificate : (text : List ℕ) (one other : Cert) → certificate_texts.Spells text one → certificate_texts.Spells text other → one ≡ other
-  pub one_certificate_fault : (text : List ℕ) (m n : ℕ) (v w : CertWhy) → certificate_texts.Fails text m v → certificate_texts.Fails text n w → (m ≡ n) × (v ≡ w)
-  pub certificate_or_fault : (text : List ℕ) (cert : Cert) (line : ℕ) (why : CertWhy) → certificate_texts.Spells text cert → certificate_texts.Fails text line why → ⊥
-  pub one_verdict : (a : Instance) (cert : Cert) (v w : Verdict) → pos 1 ≤ℤ a.scale → Accepts a cert v → Accepts a cert w → v ≡ w
-  pub one_refusal : (a : Instance) (cert : Cert) (m n : ℕ) (v w : NoWhy) → Refuses a cert m v → Refuses a cert n w → (m ≡ n) × (v ≡ w)
-  pub accepted_or_refused : (a : Instance) (cert : Cert) (v : Verdict) (n : ℕ) (why : NoWhy) → Accepts a cert v → Refuses a cert n why → ⊥
+  pub one_certificate : (text : List ℕ) (one other : AnyCert) → certificate_texts.SpellsAny text one → certificate_texts.SpellsAny text other → one ≡ other
+  pub one_certificate_fault : (text : List ℕ) (m n : ℕ) (v w : CertWhy) → certificate_texts.FailsAny text m v → certificate_texts.FailsAny text n w → (m ≡ n) × (v ≡ w)
+  pub certificate_or_fault : (text : List ℕ) (cert : AnyCert) (line : ℕ) (why : CertWhy) → certificate_texts.SpellsAny text cert → certificate_texts.FailsAny text line why → ⊥
+  pub one_verdict : (a : Instance) (cert : AnyCert) (v w : Verdict) → pos 1 ≤ℤ a.scale → AcceptsAny a cert v → AcceptsAny a cert w → v ≡ w
+  pub one_refusal : (a : Instance) (cert : AnyCert) (m n : ℕ) (v w : NoWhy) → RefusesAny a cert m v → RefusesAny a cert n w → (m ≡ n) × (v ≡ w)
+  pub accepted_or_refused : (a : Instance) (cert : AnyCert) (v : Verdict) (n : ℕ) (why : NoWhy) → AcceptsAny a cert v → RefusesAny a cert n why → ⊥
 
 -- ---- of a certificate
 
-same_judged : (l : Laws) (a : Instance) (cert : Cert) (x y : Answer) → pos 1 ≤ℤ a.scale → OfCertificate a cert x → OfCertificate a cert y → x ≡ y
+same_judged : (l : Laws) (a : Instance) (cert : AnyCert) (x y : Answer) → pos 1 ≤ℤ a.scale → OfCertificate a cert x → OfCertificate a cert y → x ≡ y
 same_judged l a cert (No m v) (No n w) scale h k =
     let e = l.one_refusal a cert m n v w h k in
     cc (e.0, e.1)
@@ -50,7 +50,7 @@ same_judged l a cert (Yes v) (Certificate n w) scale h k = absurd k
 -- ---- behind a case
 
 Read : Instance → List ℕ → Answer → Type 0
-Read a rest x = ((line : ℕ) × (why : CertWhy) × (x ≡ Certificate line why) × certificate_texts.Fails rest line why) ⊎ ((cert : Cert) × certificate_texts.Spells rest cert × OfCertificate a cert x)
+Read a rest x = ((line : ℕ) × (why : CertWhy) × (x ≡ Certificate line why) × certificate_texts.FailsAny rest line why) ⊎ ((cert : AnyCert) × certificate_texts.SpellsAny rest cert × OfCertificate a cert x)
 
 read : (a : Instance) (rest : List ℕ) (x : Answer) → OfRest a rest x → Read a rest x
 unfolding Read
@@ -68,7 +68,7 @@ same_read l a rest x y scale (inl h) (inr k) = absurd (l.certificate_or_fault re
 same_read l a rest x y scale (inr h) (inl k) = absurd (l.certificate_or_fault rest h.0 k.0 k.1 h.1 k.3)
 same_read l a rest x y scale (inr h) (inr k) =
     let e = l.one_certificate rest h.0 k.0 h.1 k.1 in
-    same_judged l a k.0 x y scale (subst (λ (c : Cert). OfCertificate a c x) e h.2) k.2
+    same_judged l a k.0 x y scale (subst (λ (c : AnyCert). OfCertificate a c x) e h.2) k.2
 
 -- ---- in the bytes
 

@@ -16,10 +16,8 @@ ghost use Rattle.verifier.specs.Answers.{status_of, text_of};
 ghost use Rattle.verifier.specs.Causes.{HasCertificateFault, HasFailingLine, IsAccepted, IsCause};
 ghost use Rattle.verifier.specs.Runs.{IsChecked, IsRight};
 
-use cert_check::{acceptance_is_a_function, accepted_verdicts_are_true};
-use cert_text::{
-    a_text_has_one_first_fault, a_text_spells_one_certificate, what_is_spelled_does_not_fail,
-};
+use cert2_check::{acceptance_is_a_function, accepted_verdicts_are_true};
+use cert2_text::{a_text_has_one_first_fault, a_text_spells_one, what_is_spelled_does_not_fail};
 use command::{
     an_input_begins_with_one_case, spelled_cases_are_cases, verdicts_are_true_of_the_bytes,
 };
@@ -31,7 +29,7 @@ pub fn an_input_has_one_answer()
 {
     an_input_begins_with_one_case();
     spelled_cases_are_cases();
-    a_text_spells_one_certificate();
+    a_text_spells_one();
     a_text_has_one_first_fault();
     what_is_spelled_does_not_fail();
     acceptance_is_a_function();

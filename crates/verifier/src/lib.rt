@@ -7,6 +7,6 @@ mod laws;
 mod running;
 
 pub use answer::Answer;
-pub use judging::{MOST_BYTES, judge};
+pub use judging::{MOST_BYTES, judge, judge_many};
 pub use laws::{a_status_tells_the_answer, an_input_has_one_answer, each_cause_is_answered};
-pub use running::verify;
+pub use running::{verify, verify_many};

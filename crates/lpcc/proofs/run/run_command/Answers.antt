@@ -9,7 +9,7 @@ pub returns-in-Solve-clause-answered : goal.returns-in-Solve-clause-answered
 returns-in-Solve-clause-answered g c =
     let e = c.run_solve.ensures in
     at_command by_one_worker c.args.command (Solve c.in-Solve.settings) _ _ _ _ _ _ _ _ c.in-Solve.is
-    (of_solve by_one_worker c.in-Solve.settings (alone c.options_of.result) _ _ _ _ _ _ _ _ (ap alone c.options_of.ensures) e.answered e.verdict e.enough)
+    (of_solve by_one_worker c.in-Solve.settings (alone c.options_of.result) c.style_of.result _ _ _ _ _ _ _ _ (ap alone c.options_of.ensures) c.style_of.ensures e.answered e.verdict e.enough)
 
 pub returns-in-Generate-clause-answered : goal.returns-in-Generate-clause-answered
 returns-in-Generate-clause-answered g c =

@@ -5,29 +5,29 @@ use Rattle.solving.proofs.Runs.{Laws, never_spent, says_verdict}
 use Rattle.solving.proofs.together.run_solve_with.Goals as goal
 
 pub returns-in-Ok-clause-answered : goal.returns-in-Ok-clause-answered
-returns-in-Ok-clause-answered g c = run_of (Says c.args.options.now c.args.brief) _ _ _ _ _ _ _ _ (Ok c.in-Ok.case) c.in-Ok.ensures c.solve_case_with.ensures
+returns-in-Ok-clause-answered g c = run_of (Says c.args.options.now c.args.style) _ _ _ _ _ _ _ _ (Ok c.in-Ok.case) c.in-Ok.ensures c.solve_case_with.ensures
 
 pub returns-in-Ok-clause-verdict : goal.returns-in-Ok-clause-verdict
 returns-in-Ok-clause-verdict g c = λ zero bytes told.
     let laws : Laws = record { decks_keep = c.spelled_decks_keep.ensures; same_truth = c.verdicts_are_those_of_the_deck.ensures } in
-    let run = run_of (Says c.args.options.now c.args.brief) _ _ _ _ _ _ _ _ (Ok c.in-Ok.case) c.in-Ok.ensures c.solve_case_with.ensures in
-    says_verdict laws c.args.options.now c.args.brief _ _ _ _ _ _ _ _ bytes run told zero
+    let run = run_of (Says c.args.options.now c.args.style) _ _ _ _ _ _ _ _ (Ok c.in-Ok.case) c.in-Ok.ensures c.solve_case_with.ensures in
+    says_verdict laws c.args.options.now c.args.style _ _ _ _ _ _ _ _ bytes run told zero
 
 pub returns-in-Ok-clause-enough : goal.returns-in-Ok-clause-enough
 returns-in-Ok-clause-enough g c = λ bytes told a spelled enough eight.
-    let run = run_of (Says c.args.options.now c.args.brief) _ _ _ _ _ _ _ _ (Ok c.in-Ok.case) c.in-Ok.ensures c.solve_case_with.ensures in
-    never_spent c.a_deck_alone_is_read_once.ensures c.args.options.now c.args.brief _ _ _ _ _ _ _ _ bytes a run told spelled enough eight
+    let run = run_of (Says c.args.options.now c.args.style) _ _ _ _ _ _ _ _ (Ok c.in-Ok.case) c.in-Ok.ensures c.solve_case_with.ensures in
+    never_spent c.a_deck_alone_is_read_once.ensures c.args.options.now c.args.style _ _ _ _ _ _ _ _ bytes a run told spelled enough eight
 
 pub returns-in-Err-clause-answered : goal.returns-in-Err-clause-answered
-returns-in-Err-clause-answered g c = refused (Says c.args.options.now c.args.brief) _ _ _ _ _ _ _ _ c.in-Err.refusal c.in-Err.ensures c.give_refusal.ensures
+returns-in-Err-clause-answered g c = refused (Says c.args.options.now c.args.style) _ _ _ _ _ _ _ _ c.in-Err.refusal c.in-Err.ensures c.give_refusal.ensures
 
 pub returns-in-Err-clause-verdict : goal.returns-in-Err-clause-verdict
 returns-in-Err-clause-verdict g c = λ zero bytes told.
     let laws : Laws = record { decks_keep = c.spelled_decks_keep.ensures; same_truth = c.verdicts_are_those_of_the_deck.ensures } in
-    let run = refused (Says c.args.options.now c.args.brief) _ _ _ _ _ _ _ _ c.in-Err.refusal c.in-Err.ensures c.give_refusal.ensures in
-    says_verdict laws c.args.options.now c.args.brief _ _ _ _ _ _ _ _ bytes run told zero
+    let run = refused (Says c.args.options.now c.args.style) _ _ _ _ _ _ _ _ c.in-Err.refusal c.in-Err.ensures c.give_refusal.ensures in
+    says_verdict laws c.args.options.now c.args.style _ _ _ _ _ _ _ _ bytes run told zero
 
 pub returns-in-Err-clause-enough : goal.returns-in-Err-clause-enough
 returns-in-Err-clause-enough g c = λ bytes told a spelled enough eight.
-    let run = refused (Says c.args.options.now c.args.brief) _ _ _ _ _ _ _ _ c.in-Err.refusal c.in-Err.ensures c.give_refusal.ensures in
-    never_spent c.a_deck_alone_is_read_once.ensures c.args.options.now c.args.brief _ _ _ _ _ _ _ _ bytes a run told spelled enough eight
+    let run = refused (Says c.args.options.now c.args.style) _ _ _ _ _ _ _ _ c.in-Err.refusal c.in-Err.ensures c.give_refusal.ensures in
+    never_spent c.a_deck_alone_is_read_once.ensures c.args.options.now c.args.style _ _ _ _ _ _ _ _ bytes a run told spelled enough eight
