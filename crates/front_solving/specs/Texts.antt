@@ -1,5 +1,5 @@
 -- The texts of solutions.
-use Rattle.std.specs.Prelude.{◌≡◌, ◌+◌, if◌then◌else◌, ℕ, ℤ, true, List, [], ◌∷◌, ◌++◌, codes, length, take}
+use Rattle.std.specs.Prelude.{◌≡◌, ◌+◌, if◌then◌else◌, ℕ, ℤ, List, [], ◌∷◌, ◌++◌, codes, length, take}
 use Rattle.std.specs.Fmt.{decimal, signed_decimal}
 use Rattle.deck_gen.specs.Generator.{joined}
 use Rattle.lp_nums.specs.Fractions.{Fraction}
@@ -12,6 +12,7 @@ use Rattle.cert_text.specs.declared.cert.CertPoint.{CertPoint}
 use Rattle.cert_check.specs.Acceptance.{numbers_of}
 use Rattle.play.specs.declared.ending.Ending.{Ending}
 use Rattle.play.specs.declared.ending.Ending.TheVariants as ending
+use Rattle.report.specs.declared.style.Style.TheVariants.{Brief}
 use Rattle.report.specs.Endings.{IsTextOf, verdict_line}
 use Rattle.kkt_front.specs.DeckTexts.{is_zero, number_at}
 
@@ -53,7 +54,7 @@ IsBilevelText variables a (Unbounded piece point ray) text = text ≡ verdict_li
 -- every other ending is written as `solve` writes it
 abbrev pub IsEndingText : (Cert → List ℕ → Type 0) → Instance → Ending → List ℕ → Type 0
 IsEndingText IsVerdictText a (ending.Verdict cert drawn) text = IsVerdictText cert text
-IsEndingText IsVerdictText a (ending.Overflow piece at) text = IsTextOf a true (ending.Overflow piece at) text
-IsEndingText IsVerdictText a (ending.PivotsSpent piece at) text = IsTextOf a true (ending.PivotsSpent piece at) text
-IsEndingText IsVerdictText a (ending.PiecesSpent drawn left) text = IsTextOf a true (ending.PiecesSpent drawn left) text
-IsEndingText IsVerdictText a ending.NoMemory text = IsTextOf a true ending.NoMemory text
+IsEndingText IsVerdictText a (ending.Overflow piece at) text = IsTextOf a Brief (ending.Overflow piece at) text
+IsEndingText IsVerdictText a (ending.PivotsSpent piece at) text = IsTextOf a Brief (ending.PivotsSpent piece at) text
+IsEndingText IsVerdictText a (ending.PiecesSpent drawn left) text = IsTextOf a Brief (ending.PiecesSpent drawn left) text
+IsEndingText IsVerdictText a ending.NoMemory text = IsTextOf a Brief ending.NoMemory text

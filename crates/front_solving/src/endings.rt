@@ -17,7 +17,7 @@ use lp_base::Sequence;
 use lp_nums::Frac;
 use lpcc_case::{Case, Point, value_of};
 use play::Ending;
-use report::text_of;
+use report::{Style, text_of};
 use std::alloc::{AllocError, Global};
 
 /// The value of an optimum, and the point that has it.
@@ -165,7 +165,7 @@ pub fn lcp_text(
         Ending::Verdict { cert, .. } => {
             Ok(lcp_verdict_text(alloc, case, size, cert)?.into_bytes())
         }
-        _ => text_of(alloc, case, ending, true),
+        _ => text_of(alloc, case, ending, Style::Brief),
     }
 }
 
@@ -185,6 +185,6 @@ pub fn bilevel_text(
         Ending::Verdict { cert, .. } => {
             Ok(bilevel_verdict_text(alloc, case, variables, cert)?.into_bytes())
         }
-        _ => text_of(alloc, case, ending, true),
+        _ => text_of(alloc, case, ending, Style::Brief),
     }
 }
