@@ -14,13 +14,15 @@ use Rattle.play.specs.declared.event.Options.{Options}
 use Rattle.play.specs.declared.event.ShrinkMode.TheVariants.{Full, Off}
 use Rattle.relaxing.specs.Relaxing as relaxing
 use Rattle.report.specs.declared.style.Style.{Style}
-use Rattle.report.specs.declared.style.Style.TheVariants.{Brief, Two}
+use Rattle.report.specs.declared.style.Style.TheVariants.{Brief, One, Two}
 use Rattle.solving.specs.Solving as solving
 use Rattle.verifier.specs.Runs.{IsChecked, SaysYes}
 use Rattle.words.specs.Commands.{command_of}
 use Rattle.words.specs.declared.command.Command.{Command}
 use Rattle.words.specs.declared.command.Command.TheVariants.{Bilevel, Check, Generate, Lcp, Relax, Solve}
 use Rattle.words.specs.declared.command.Draft.{Draft}
+use Rattle.words.specs.declared.command.Form.{Form}
+use Rattle.words.specs.declared.command.Form.TheVariants as form
 use Rattle.words.specs.declared.command.Settings.{Settings}
 use Rattle.words.specs.declared.command.TheConstants.{MOST_WORKERS, USUAL_PIECES, USUAL_PIVOTS}
 
@@ -54,9 +56,14 @@ as_asked s = record { workers = s.workers; pieces = s.pieces; pivots = s.pivots;
 abbrev pub by_one_worker : Settings → Options
 by_one_worker s = record (as_asked s) { workers = 1 }
 
--- what is written of a verdict: its certificate in form 2, unless it is to be brief
+-- the style of a certificate in this form
+abbrev pub in_form : Form → Style
+in_form form.One = One
+in_form form.Two = Two
+
+-- what is written of a verdict: its certificate in the form that is asked for, unless it is to be brief
 abbrev pub style_of : Settings → Style
-style_of s = if s.brief then Brief else Two
+style_of s = if s.brief then Brief else in_form s.form
 
 abbrev pub usual : Options
 usual = record { workers = 1; pieces = USUAL_PIECES; pivots = USUAL_PIVOTS; shrink = Full }

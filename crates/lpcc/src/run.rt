@@ -23,7 +23,7 @@ use std::io;
 use std::sync::Wait;
 use std::thread::Threads;
 use verifier::{a_status_tells_the_answer, verify};
-use words::{Command, Draft, MOST_WORKERS, Settings, USUAL_PIECES, USUAL_PIVOTS, command_of};
+use words::{Command, Draft, Form, MOST_WORKERS, Settings, USUAL_PIECES, USUAL_PIVOTS, command_of};
 use worker::Gate;
 
 /// The status where the words are no command.
@@ -77,9 +77,11 @@ fn style_of(settings: Settings) -> Style
     ensures { result ≡ style_of settings }
 {
     if settings.brief {
-        Style::Brief
-    } else {
-        Style::Two
+        return Style::Brief;
+    }
+    match settings.form {
+        Form::One => Style::One,
+        Form::Two => Style::Two,
     }
 }
 

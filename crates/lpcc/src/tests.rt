@@ -68,6 +68,7 @@ fn words(rt: HostRuntime) -> Result<(), Fail> {
         "solve --pieces",
         "solve --brief --brief",
         "solve --shrink half",
+        "solve --form 3",
         "relax --brief",
         "relax --pivots 0",
         "relax --pivots 9223372036854775808",

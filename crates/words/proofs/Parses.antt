@@ -5,17 +5,17 @@ use Rattle.clap.specs.declared.Error.{Error}
 use Rattle.clap.specs.declared.ArgMatches.{ArgMatches}
 use Rattle.clap.specs.declared.error.ErrorKind.TheVariants as kind
 use Rattle.clap.proofs.OnLiterals.{clap_on_literals}
-use Rattle.words.specs.Command.{bare, lpcc_command, options}
+use Rattle.words.specs.Command.{bare, lpcc_command, options, tuned}
 use Rattle.words.specs.Commands.{command_in, command_of, if_none}
 use Rattle.words.specs.declared.command.Command.{Command}
 
 -- the command is one of those whose matches clap states exactly
 is_simple-command : is_simple lpcc_command ≡ true
-unfolding clap_on_literals lpcc_command options bare
+unfolding clap_on_literals lpcc_command tuned options bare
 is_simple-command = refl
 
 is_simple_and_free-command : is_simple_and_free lpcc_command ≡ true
-unfolding clap_on_literals lpcc_command options bare
+unfolding clap_on_literals lpcc_command tuned options bare
 is_simple_and_free-command = refl
 
 pub taken : (a : App) (words : List Text) (m : ArgMatches) (found : Option Command) → a ≡ lpcc_command → HasMatchesOf a words m → (is_simple_and_free a ≡ true → fault_of a words ≡ []) → found ≡ command_in (rows_of (found_of m)) → found ≡ command_of words

@@ -7,6 +7,8 @@ use Rattle.clap.specs.declared.parser.ValueSource.TheVariants.{CommandLine, Defa
 use Rattle.words.specs.declared.command.Command.{Command}
 use Rattle.words.specs.declared.command.Command.TheVariants.{Bilevel, Check, Generate, Lcp, Relax, Solve}
 use Rattle.words.specs.declared.command.Draft.{Draft}
+use Rattle.words.specs.declared.command.Form.{Form}
+use Rattle.words.specs.declared.command.Form.TheVariants.{One, Two}
 use Rattle.words.specs.declared.command.Settings.{Settings}
 use Rattle.words.specs.declared.command.TheConstants.{MOST_WORKERS, USUAL_PIECES, USUAL_PIVOTS}
 use Rattle.words.specs.declared.numbers.TheConstants.{MOST}
@@ -40,27 +42,32 @@ abbrev pub is_full : Option Text → Option Bool
 is_full None = Some true
 is_full (Some w) = if bytes_eq w (codes "full") then Some true else if bytes_eq w (codes "none") then Some false else None
 
+-- form 2, as is usual, or form 1
+abbrev pub form_of : Option Text → Option Form
+form_of None = Some Two
+form_of (Some w) = if bytes_eq w (codes "1") then Some One else if bytes_eq w (codes "2") then Some Two else None
+
 -- ---- which arguments stand that a command does not take
 
 abbrev pub is_beyond_solve : List Row → Bool
 is_beyond_solve rows = stands (codes "numbers") rows || stands (codes "solve") rows
 
 abbrev pub is_beyond_relax : List Row → Bool
-is_beyond_relax rows = is_beyond_solve rows || stands (codes "workers") rows || stands (codes "pieces") rows || stands (codes "shrink") rows || stands (codes "brief") rows
+is_beyond_relax rows = is_beyond_solve rows || stands (codes "workers") rows || stands (codes "pieces") rows || stands (codes "shrink") rows || stands (codes "form") rows || stands (codes "brief") rows
 
 abbrev pub is_beyond_check : List Row → Bool
 is_beyond_check rows = is_beyond_relax rows || stands (codes "pivots") rows
 
 abbrev pub is_beyond_gen : List Row → Bool
-is_beyond_gen rows = stands (codes "workers") rows || stands (codes "pieces") rows || stands (codes "pivots") rows || stands (codes "shrink") rows || stands (codes "brief") rows
+is_beyond_gen rows = stands (codes "workers") rows || stands (codes "pieces") rows || stands (codes "pivots") rows || stands (codes "shrink") rows || stands (codes "form") rows || stands (codes "brief") rows
 
 abbrev pub is_beyond_front : List Row → Bool
 is_beyond_front rows = stands (codes "numbers") rows || is_beyond_gen rows
 
 -- ---- the commands
 
-abbrev pub settings : ℕ → ℕ → ℕ → Bool → Bool → Settings
-settings workers pieces pivots full brief = record { workers = workers; pieces = pieces; pivots = pivots; full = full; brief = brief }
+abbrev pub settings : ℕ → ℕ → ℕ → Bool → Bool → Form → Settings
+settings workers pieces pivots full brief form = record { workers = workers; pieces = pieces; pivots = pivots; full = full; brief = brief; form = form }
 
 abbrev pub draft : Bool → ℕ → ℕ → ℕ → ℕ → Draft
 draft solve seed columns rows pairs = record { seed = seed; columns = columns; rows = rows; pairs = pairs; solve = solve }
@@ -76,7 +83,9 @@ settings_of rows =
     option_and_then (λ workers.
     option_and_then (λ pieces.
     option_and_then (λ pivots.
-    option_map (λ full. settings workers pieces pivots full (stands (codes "brief") rows))
+    option_and_then (λ full.
+    option_map (λ form. settings workers pieces pivots full (stands (codes "brief") rows) form)
+    (form_of (first_of (codes "form") rows)))
     (is_full (first_of (codes "shrink") rows)))
     (number_or USUAL_PIVOTS MOST (first_of (codes "pivots") rows)))
     (number_or USUAL_PIECES MOST (first_of (codes "pieces") rows)))

@@ -1,7 +1,7 @@
 //! The commands.
 ghost use Rattle.std.specs.Prelude.{◌≡◌, ◌≤◌, map, option_map};
 ghost use Rattle.clap.specs.Words.{first_of, found_of, rows_of};
-ghost use Rattle.words.specs.Commands.{bilevel_of, check_of, command_in, command_named, draft_of, gen_of, is_beyond_check, is_beyond_front, is_beyond_gen, is_beyond_relax, is_beyond_solve, is_full, is_of_words, lcp_of, number_or, numbers_of, relax_of, settings_of, solve_of, source_of, stands};
+ghost use Rattle.words.specs.Commands.{bilevel_of, check_of, command_in, command_named, draft_of, form_of, gen_of, is_beyond_check, is_beyond_front, is_beyond_gen, is_beyond_relax, is_beyond_solve, is_full, is_of_words, lcp_of, number_or, numbers_of, relax_of, settings_of, solve_of, source_of, stands};
 
 use crate::numbers::{MOST, number_in};
 use clap::ArgMatches;
@@ -16,6 +16,13 @@ pub const USUAL_PIECES: u64 = 50_000;
 /// How many pivots a stage may make, where no number is given.
 pub const USUAL_PIVOTS: u64 = 1_000_000;
 
+/// The form in which a certificate is printed.
+#[derive(Clone, Copy, Debug, PartialEq, Eq)]
+pub enum Form {
+    One,
+    Two,
+}
+
 /// What is asked of `solve`.
 #[derive(Clone, Copy)]
 pub struct Settings {
@@ -29,6 +36,8 @@ pub struct Settings {
     pub full: bool,
     /// Whether the certificate is left out.
     pub brief: bool,
+    /// The form of the certificate.
+    pub form: Form,
 }
 
 /// What is asked of `gen`: the numbers of the deck, and whether it is to be solved. Whether there is
@@ -113,6 +122,21 @@ fn is_full(text: Option<&str>) -> Option<bool>
     }
 }
 
+fn form_of(text: Option<&str>) -> Option<Form>
+    ensures { result ≡ form_of (option_map (λ s. s.now) text.entry) }
+{
+    let Some(text) = text else {
+        return Some(Form::Two);
+    };
+    if text == "1" {
+        Some(Form::One)
+    } else if text == "2" {
+        Some(Form::Two)
+    } else {
+        None
+    }
+}
+
 fn is_beyond_solve(matches: &ArgMatches) -> bool
     ensures { result ≡ is_beyond_solve (rows_of (found_of matches.now)) }
 {
@@ -126,6 +150,7 @@ fn is_beyond_relax(matches: &ArgMatches) -> bool
         || stands(matches, "workers")
         || stands(matches, "pieces")
         || stands(matches, "shrink")
+        || stands(matches, "form")
         || stands(matches, "brief")
 }
 
@@ -142,6 +167,7 @@ fn is_beyond_gen(matches: &ArgMatches) -> bool
         || stands(matches, "pieces")
         || stands(matches, "pivots")
         || stands(matches, "shrink")
+        || stands(matches, "form")
         || stands(matches, "brief")
 }
 
@@ -178,12 +204,14 @@ fn settings_of(matches: &ArgMatches) -> Option<Settings>
     let pieces = number_or(USUAL_PIECES, MOST, text_of(matches, "pieces"))?;
     let pivots = number_or(USUAL_PIVOTS, MOST, text_of(matches, "pivots"))?;
     let full = is_full(text_of(matches, "shrink"))?;
+    let form = form_of(text_of(matches, "form"))?;
     Some(Settings {
         workers,
         pieces,
         pivots,
         full,
         brief: stands(matches, "brief"),
+        form,
     })
 }
 

@@ -6,6 +6,6 @@ mod numbers;
 mod rules;
 mod taking;
 
-pub use command::{Command, Draft, MOST_WORKERS, Settings, USUAL_PIECES, USUAL_PIVOTS};
+pub use command::{Command, Draft, Form, MOST_WORKERS, Settings, USUAL_PIECES, USUAL_PIVOTS};
 pub use numbers::MOST;
 pub use taking::command_of;

@@ -1,7 +1,7 @@
 //! The rules by which words are read.
 ghost use Rattle.std.specs.Prelude.{◌≡◌, IfOk, false};
 ghost use Rattle.clap.specs.Words.{app_of, new_app, rule_of};
-ghost use Rattle.words.specs.Command.{bare, flag_rule, lpcc_command, name_rule, numbers_rule, option_rule, options, workers_rule};
+ghost use Rattle.words.specs.Command.{bare, flag_rule, lpcc_command, name_rule, numbers_rule, option_rule, options, tuned, workers_rule};
 
 use clap::{Arg, ArgAction, Command};
 use std::alloc::{AllocError, Global};
@@ -59,14 +59,22 @@ fn with_options<'a>(alloc: Global) -> Result<Command<'a>, AllocError>
     with_workers.arg(option_arg(alloc, "pieces"))
 }
 
+#[tactic(auto, unfolding(crate::specs::Command::tuned))]
+fn with_tuning<'a>(alloc: Global) -> Result<Command<'a>, AllocError>
+    ensures { IfOk result (λ c. app_of c ≡ tuned) }
+{
+    let start = with_options(alloc)?;
+    let with_pivots = start.arg(option_arg(alloc, "pivots"))?;
+    with_pivots.arg(option_arg(alloc, "shrink"))
+}
+
 /// The command by whose rules words are read.
 #[tactic(auto, unfolding(crate::specs::Command::lpcc_command))]
 pub fn lpcc_command<'a>(alloc: Global) -> Result<Command<'a>, AllocError>
     ensures { IfOk result (λ c. app_of c ≡ lpcc_command) }
 {
-    let start = with_options(alloc)?;
-    let with_pivots = start.arg(option_arg(alloc, "pivots"))?;
-    let with_shrink = with_pivots.arg(option_arg(alloc, "shrink"))?;
-    let with_brief = with_shrink.arg(flag_arg(alloc, "brief"))?;
+    let start = with_tuning(alloc)?;
+    let with_form = start.arg(option_arg(alloc, "form"))?;
+    let with_brief = with_form.arg(flag_arg(alloc, "brief"))?;
     with_brief.arg(flag_arg(alloc, "solve"))
 }
