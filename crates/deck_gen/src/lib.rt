@@ -6,8 +6,6 @@ mod draws;
 mod lines;
 mod sections;
 mod sizes;
-#[cfg(test)]
-mod tests;
 
 pub use sections::deck;
 pub use sizes::in_range;

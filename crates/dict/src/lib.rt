@@ -15,6 +15,3 @@ mod start;
 
 pub use dictionary::Dict;
 pub use fault::{PivotFault, Wide};
-
-#[cfg(test)]
-mod tests;

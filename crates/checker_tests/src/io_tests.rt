@@ -1,4 +1,8 @@
-use super::*;
+//! Bytes taken from sources and put into sinks.
+
+use lp_io::{
+    Failed, MemSink, MemSource, Sink, Source, StdSink, StdSource, TakeFault, put_all, take_all,
+};
 use std::test::Fail;
 
 // What a take answers, without what it took.

@@ -1,5 +1,6 @@
-//! Decks that are known.
-use crate::deck;
+//! Decks made from a number that are known.
+
+use deck_gen::deck;
 use std::test::Fail;
 
 #[test]

@@ -1,7 +1,8 @@
+//! Pivots there and back.
 ghost use Rattle.std.specs.Prelude.{◌≡◌, ◌≢◌, ◌≤◌, ◌<◌, pos, length, All, IfOk};
 ghost use Rattle.lpcc_case.specs.Cases.{FitsCase, IsConstraint};
 
-use super::*;
+use dict::{Dict, PivotFault};
 use lp_base::Sequence;
 use lpcc_case::{Case, Constraint, Form, Kind};
 use sense::Sense;
