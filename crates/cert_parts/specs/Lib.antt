@@ -1,0 +1,4 @@
+pub mod PointTerms
+pub mod PieceChoices
+pub mod Lines
+pub mod Making
