@@ -9,9 +9,15 @@ use std::alloc::{AllocError, Global};
 use std::marker::Model;
 
 /// Names of a text. Contracts see the list of them.
-#[derive(Drop)]
 pub struct Names<'a> {
     held: IndexSet<&'a [u8]>,
+}
+
+/// By a call, which keeps the models of the functions small that own a table.
+impl<'a> Drop for Names<'a> {
+    fn drop(self) {
+        let Names { held: _ } = self;
+    }
 }
 
 impl<'a> Model for Names<'a> {
@@ -97,9 +103,15 @@ impl<'a> Names<'a> {
 }
 
 /// Names of a text with what is known of each. Contracts see the list of both.
-#[derive(Drop)]
 pub struct NameMap<'a, T> {
     held: IndexMap<&'a [u8], T>,
+}
+
+/// By a call, which keeps the models of the functions small that own a table.
+impl<'a, T: Drop> Drop for NameMap<'a, T> {
+    fn drop(self) {
+        let NameMap { held: _ } = self;
+    }
 }
 
 impl<'a, T> Model for NameMap<'a, T> {
