@@ -1,0 +1,15 @@
+pub mod Lined
+pub mod Decks
+pub mod Steps
+pub mod Numbers
+pub mod NumberedNames
+pub mod Names
+pub mod RowLines
+pub mod Apart
+pub mod ColumnLines
+pub mod Optional
+pub mod RightLines
+pub mod BoundLines
+pub mod PairLines
+pub mod Stages
+pub mod Whole
