@@ -57,10 +57,11 @@ row_names p = map row_name (rows_of p)
 abbrev pub column_names : Printed → List Name
 column_names p = map column_name p.columns
 
--- the deck, ENDATA standing on a line of this number
+-- a row and a column
 abbrev pub pair_of : ℕ × ℕ → PairLine
 pair_of q = record { a = Row q.0; b = Col q.1 }
 
+-- the deck, ENDATA standing on a line of this number
 abbrev pub printed_deck : Printed → ℕ → Deck
 printed_deck p end = record {
   sense = Min;

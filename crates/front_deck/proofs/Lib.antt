@@ -1,0 +1,7 @@
+pub mod Listed
+pub mod Numbered
+pub mod Parts
+pub mod Texts
+pub mod LcpPrinted
+pub mod BilevelPrinted
+pub mod Meaning
