@@ -1,0 +1,5 @@
+use Rattle.edit_text.proofs.Clauses.{one_fault}
+use Rattle.edit_text.proofs.laws.a_text_has_one_first_fault.Goals as goal
+
+pub returns : goal.returns
+returns c = one_fault
