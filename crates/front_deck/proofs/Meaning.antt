@@ -8,6 +8,7 @@ use Rattle.decks.specs.Texts.{Spells}
 use Rattle.decks.specs.declared.deck.Deck.{Deck}
 use Rattle.front_case.proofs.BilevelDeck as bilevel
 use Rattle.front_case.proofs.LcpDeck as lcp
+use Rattle.front_deck.specs.Meanings.{IsDeckOfBilevel, IsDeckOfLcp}
 use Rattle.front_deck.proofs.BilevelPrinted as printed_bilevel
 use Rattle.front_deck.proofs.LcpPrinted as printed_lcp
 use Rattle.front_text.specs.Problems.{IsBilevel, IsLcp}
@@ -44,6 +45,11 @@ lcp_case p d place h s = let same = lcp_is p d place h s in subst HasItsCase sam
 pub lcp_points : (p : Lcp) (d : Deck) (place : ℕ) (z : Point (length d.columns)) → IsLcp p → Spells (lcp_text p) d place → IsFeasible (case_of_deck d) z ↔ IsSolution p z
 lcp_points p d place z h s = let same = lcp_is p d place h s in subst (MeansLcp p) same.1 (lcp_means p same.0 h) z
 
+pub deck_of_lcp : (p : Lcp) → IsLcp p → IsDeckOfLcp (lcp_text p) p
+deck_of_lcp p h =
+    let mine = printed_lcp.spelled p h in
+    record { deck = lcp_deck p mine.0; spelled = mine.1; has_case = lcp.has_case p mine.0 h; points = lcp_means p mine.0 h }
+
 -- ---- a bilevel problem
 
 abbrev MeansBilevel : Bilevel → Deck → Type 0
@@ -64,3 +70,8 @@ bilevel_case b d place h s = let same = bilevel_is b d place h s in subst HasIts
 
 pub bilevel_points : (b : Bilevel) (d : Deck) (place : ℕ) (p : Point (length d.columns)) → IsBilevel b → Spells (bilevel_text b) d place → IsFeasible (case_of_deck d) p ↔ IsWithMultipliers b p
 bilevel_points b d place p h s = let same = bilevel_is b d place h s in subst (MeansBilevel b) same.2 (bilevel_means b same.0 same.1 h) p
+
+pub deck_of_bilevel : (b : Bilevel) → IsBilevel b → IsDeckOfBilevel (bilevel_text b) b
+deck_of_bilevel b h =
+    let mine = printed_bilevel.spelled b h in
+    record { deck = bilevel_deck b mine.0 mine.1; spelled = mine.2; has_case = bilevel.has_case b mine.0 mine.1 h; points = bilevel_means b mine.0 mine.1 h }

@@ -3,6 +3,7 @@ ghost use Rattle.std.specs.Prelude.{◌↔◌, ℕ, length};
 ghost use Rattle.deck_case.specs.DeckCases.{HasCase, case_of_deck};
 ghost use Rattle.decks.specs.Texts.{Spells};
 ghost use Rattle.decks.specs.declared.deck.Deck as decks;
+ghost use Rattle.front_deck.specs.Meanings.{IsDeckOfBilevel, IsDeckOfLcp};
 ghost use Rattle.front_text.specs.Problems.{IsBilevel, IsLcp};
 ghost use Rattle.front_text.specs.declared.problem.Bilevel.{Bilevel};
 ghost use Rattle.front_text.specs.declared.problem.Lcp.{Lcp};
@@ -30,4 +31,10 @@ pub fn printed_lcp_decks_mean_their_problems()
 pub fn printed_bilevel_decks_mean_their_problems()
     ensures case { (b : Bilevel) (d : decks.Deck) (place : ℕ) → IsBilevel b → Spells (bilevel_text b) d place → HasCase d (case_of_deck d) }
     ensures points { (b : Bilevel) (d : decks.Deck) (place : ℕ) (p : Point (length d.columns)) → IsBilevel b → Spells (bilevel_text b) d place → IsFeasible (case_of_deck d) p ↔ IsWithMultipliers b p }
+{}
+
+/// The text of a problem's deck is that of a deck that means the problem.
+pub fn printed_decks_are_those_of_their_problems()
+    ensures lcp { (p : Lcp) → IsLcp p → IsDeckOfLcp (lcp_text p) p }
+    ensures bilevel { (b : Bilevel) → IsBilevel b → IsDeckOfBilevel (bilevel_text b) b }
 {}

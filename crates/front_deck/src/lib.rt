@@ -5,5 +5,5 @@ mod laws;
 
 pub use laws::{
     printed_bilevel_decks_mean_their_problems, printed_decks_are_spelled,
-    printed_lcp_decks_mean_their_problems,
+    printed_decks_are_those_of_their_problems, printed_lcp_decks_mean_their_problems,
 };
