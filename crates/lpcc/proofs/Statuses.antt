@@ -8,6 +8,11 @@ use Rattle.command.specs.Inputs.{SpellsAlone}
 use Rattle.command.specs.Runs.{IsRightCase, IsRun, IsWrittenFor}
 use Rattle.command.specs.declared.refusal.Refusal.{Refusal}
 use Rattle.command.specs.declared.refusal.Refusal.TheVariants.{Deck, NoMemory, ReadFault, RowWide, TooLong, TooMany}
+use Rattle.cert2_text.specs.declared.cert2.AnyCert.{AnyCert}
+use Rattle.converting.specs.Refusals as conversions
+use Rattle.converting.specs.Runs as converted
+use Rattle.converting.specs.declared.refusal.Refusal as certificate_refusals
+use Rattle.converting.specs.declared.refusal.Refusal.TheVariants as certificate_refusal
 use Rattle.deck_gen.specs.Generator.{deck_text}
 use Rattle.deck_gen.specs.declared.sizes.Sizes.{Sizes}
 use Rattle.front_text.specs.Texts.{FailsAsBilevel, FailsAsLcp, SpellsBilevel, SpellsLcp}
@@ -31,7 +36,7 @@ use Rattle.report.specs.declared.relaxation.Relaxation.TheVariants as relaxation
 use Rattle.solving.specs.Solving as solving
 use Rattle.verifier.specs.Runs.{IsChecked}
 use Rattle.words.specs.declared.command.Command.{Command}
-use Rattle.words.specs.declared.command.Command.TheVariants.{Bilevel, Check, Generate, Lcp, Relax, Solve}
+use Rattle.words.specs.declared.command.Command.TheVariants.{Bilevel, Check, Generate, Lcp, Migrate, Relax, Solve}
 use Rattle.words.specs.declared.command.Draft.{Draft}
 use Rattle.words.specs.declared.command.Settings.{Settings}
 use Rattle.verifier.specs.declared.answer.Answer.TheVariants.{Refused}
@@ -105,6 +110,16 @@ made_not_two : (o : Settings → Options) (draft : Draft) (left : Option (List �
 made_not_two o draft left rb rn tb tn wb wn false e run = plain_not_two (sizes_of draft) tb tn wb wn (run.0 e)
 made_not_two o draft left rb rn tb tn wb wn true e run = solved_not_two (sizes_of draft) tb tn wb wn (run.1 e)
 
+certificate_not_two : (r : certificate_refusals.Refusal) → 2 ≡ conversions.status_of r → ⊥
+certificate_not_two certificate_refusal.ReadFault e = omega arith
+certificate_not_two certificate_refusal.TooLong e = omega arith
+certificate_not_two (certificate_refusal.Line line why) e = omega arith
+certificate_not_two certificate_refusal.NoMemory e = omega arith
+
+conversion_not_two : (read : Result AnyCert certificate_refusals.Refusal) → 2 ≡ converted.status_of read → ⊥
+conversion_not_two (Ok cert) e = omega (arith, e)
+conversion_not_two (Err r) e = certificate_not_two r e
+
 front_not_two : (r : FrontRefusal) → 2 ≡ front_refusals.status_of r → ⊥
 front_not_two front_refusal.ReadFault e = omega arith
 front_not_two front_refusal.TooLong e = omega arith
@@ -128,6 +143,8 @@ NotTwo = (left : Option (List ℕ)) (rb rn : ℕ) (tb tn : Option (List ℕ)) (w
 
 not_two : (o : Settings → Options) → NotTwo → (c : Command) (left : Option (List ℕ)) (rb rn : ℕ) (tb tn : Option (List ℕ)) (wb wn : ℕ) → Runs o c left rb rn tb tn wb wn 2 → ⊥
 not_two o law Check left rb rn tb tn wb wn run = law left rb rn tb tn wb wn 2 run.0 refl
+not_two o law Migrate left rb rn tb tn wb wn run =
+    written_not_two tb tn wb wn (converted.text_of run.0.read) (converted.status_of run.0.read) (conversion_not_two run.0.read) run.0.written
 not_two o law (Relax q) left rb rn tb tn wb wn run = run_not_two (relaxing.Says q) left rb rn tb tn wb wn (λ a text meant says e. relaxation_not_two says.end (e ∙ says.status_is)) run.0
 not_two o law (Solve s) left rb rn tb tn wb wn run = solve_not_two (o s) (style_of s) left rb rn tb tn wb wn run.0
 not_two o law (Generate d) left rb rn tb tn wb wn run = made_not_two o d left rb rn tb tn wb wn d.solve refl run
@@ -182,6 +199,9 @@ short_run Says left count tb tn wb wn status short = record { read = Err NoMemor
 short_check : (left : Option (List ℕ)) (count : ℕ) (tb tn : Option (List ℕ)) (wb wn status : ℕ) → IsOutOfMemory tb tn wb wn status → IsChecked left count count tb tn wb wn status
 short_check left count tb tn wb wn status short = record { answer = Refused NoMemory; right = record { counted = λ e. absurd (cc e); right = λ bytes told. inr (inl refl) }; written = short }
 
+short_conversion : (left : Option (List ℕ)) (count : ℕ) (tb tn : Option (List ℕ)) (wb wn status : ℕ) → IsOutOfMemory tb tn wb wn status → converted.IsConverted left count count tb tn wb wn status
+short_conversion left count tb tn wb wn status short = record { read = Err certificate_refusal.NoMemory; right = record { counted = λ e. absurd (cc e); right = λ bytes told. inr (inl refl) }; written = short }
+
 five_or_six : (tb tn : Option (List ℕ)) (wb wn status : ℕ) → IsOutOfMemory tb tn wb wn status → (status ≡ 5) ⊎ (status ≡ 6)
 five_or_six tb tn wb wn status (inl w) = inr w.0
 five_or_six tb tn wb wn status (inr w) = inl w.0
@@ -195,6 +215,9 @@ pub of_memory : (how : Settings → Options) (c : Command) (left : Option (List 
 of_memory how Check left count tb tn wb wn status short =
     let five_six = five_or_six tb tn wb wn status short in
     (short_check left count tb tn wb wn status short, λ zero. absurd (is_other 0 status (λ e. omega arith) (λ e. omega arith) five_six zero))
+of_memory how Migrate left count tb tn wb wn status short =
+    let five_six = five_or_six tb tn wb wn status short in
+    (short_conversion left count tb tn wb wn status short, λ zero. absurd (is_other 0 status (λ e. omega arith) (λ e. omega arith) five_six zero))
 of_memory how (Relax q) left count tb tn wb wn status short =
     let five_six = five_or_six tb tn wb wn status short in
     (short_run (relaxing.Says q) left count tb tn wb wn status short, λ zero. absurd (is_other 0 status (λ e. omega arith) (λ e. omega arith) five_six zero), λ bytes told a spelled many eight. is_other 8 status (λ e. omega arith) (λ e. omega arith) five_six eight)

@@ -3,6 +3,7 @@ use Rattle.std.specs.Prelude.{◌≡◌, ◌≤◌, ⊤, if◌then◌else◌, �
 use Rattle.lpcc_case.specs.Instance.{Instance}
 use Rattle.command.specs.Inputs.{SpellsAlone}
 use Rattle.command.specs.Runs.{IsRun}
+use Rattle.converting.specs.Runs.{IsConverted, SaysConverted}
 use Rattle.deck_gen.specs.Generator.{IsInRange}
 use Rattle.deck_gen.specs.declared.sizes.Sizes.{Sizes}
 use Rattle.generating.specs.Generating.{IsGenerated, IsGeneratedAndSolved}
@@ -19,7 +20,7 @@ use Rattle.solving.specs.Solving as solving
 use Rattle.verifier.specs.Runs.{IsChecked, SaysYes}
 use Rattle.words.specs.Commands.{command_of}
 use Rattle.words.specs.declared.command.Command.{Command}
-use Rattle.words.specs.declared.command.Command.TheVariants.{Bilevel, Check, Generate, Lcp, Relax, Solve}
+use Rattle.words.specs.declared.command.Command.TheVariants.{Bilevel, Check, Generate, Lcp, Migrate, Relax, Solve}
 use Rattle.words.specs.declared.command.Draft.{Draft}
 use Rattle.words.specs.declared.command.Form.{Form}
 use Rattle.words.specs.declared.command.Form.TheVariants as form
@@ -29,6 +30,7 @@ use Rattle.words.specs.declared.command.TheConstants.{MOST_WORKERS, USUAL_PIECES
 -- there is such a deck; there may be so many workers
 abbrev pub IsPossible : Command → Type 0
 IsPossible Check = ⊤
+IsPossible Migrate = ⊤
 IsPossible (Relax pivots) = ⊤
 IsPossible (Solve settings) = (1 ≤ settings.workers) × (settings.workers ≤ MOST_WORKERS)
 IsPossible (Generate draft) = IsInRange draft.columns draft.rows draft.pairs
@@ -102,6 +104,9 @@ abbrev pub Runs : (Settings → Options) → Command → Option (List ℕ) → �
 Runs options_of Check left rb rn tb tn wb wn status =
     IsChecked left rb rn tb tn wb wn status
     × (status ≡ 0 → (bytes : List ℕ) → left ≡ Some bytes → SaysYes bytes tb tn)
+Runs options_of Migrate left rb rn tb tn wb wn status =
+    IsConverted left rb rn tb tn wb wn status
+    × (status ≡ 0 → (bytes : List ℕ) → left ≡ Some bytes → SaysConverted bytes tb tn)
 Runs options_of (Relax pivots) left rb rn tb tn wb wn status =
     IsRun (relaxing.Says pivots) left rb rn tb tn wb wn status
     × (status ≡ 0 → (bytes : List ℕ) → left ≡ Some bytes → relaxing.SaysVerdict bytes tb tn)

@@ -9,6 +9,7 @@ ghost use Rattle.words.specs.declared.command.Command.TheVariants.{Bilevel, Gene
 ghost use Rattle.words.specs.declared.command.Draft.{Draft as Plan};
 
 use command::{Status, give, give_no_memory};
+use converting::convert;
 use deck_gen::in_range;
 use front_solving::{solve_bilevel, solve_lcp};
 use fronting::{print_bilevel, print_lcp};
@@ -33,7 +34,11 @@ fn is_possible(command: Command) -> bool
     ensures { IsTrue result ↔ IsPossible command }
 {
     match command {
-        Command::Check | Command::Relax(_) | Command::Lcp { .. } | Command::Bilevel { .. } => true,
+        Command::Check
+        | Command::Migrate
+        | Command::Relax(_)
+        | Command::Lcp { .. }
+        | Command::Bilevel { .. } => true,
         Command::Solve(settings) => 1 <= settings.workers && settings.workers <= MOST_WORKERS,
         Command::Generate(draft) => in_range(draft.columns, draft.rows, draft.pairs),
     }
@@ -154,6 +159,7 @@ fn run_command<S: Source, K: Sink>(
 {
     match command {
         Command::Check => verify(alloc, src, out),
+        Command::Migrate => convert(alloc, src, out),
         Command::Relax(pivots) => relax(alloc, pivots, src, out),
         Command::Solve(settings) => {
             run_solve(alloc, &options_of(settings), style_of(settings), src, out)
@@ -244,6 +250,7 @@ fn run_command_as_asked<R: Threads + Wait + Sync, S: Source, K: Sink, G: Gate + 
 {
     match command {
         Command::Check => verify(alloc, src, out),
+        Command::Migrate => convert(alloc, src, out),
         Command::Relax(pivots) => relax(alloc, pivots, src, out),
         Command::Solve(settings) => run_solve_as_asked(rt, alloc, settings, gate, src, out),
         Command::Generate(draft) => run_draft(alloc, draft, out),

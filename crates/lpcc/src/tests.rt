@@ -62,6 +62,7 @@ fn words(rt: HostRuntime) -> Result<(), Fail> {
     let rows = [
         "",
         "check --brief",
+        "migrate --form 2",
         "Check",
         "solve -j 0",
         "solve -j 65",
@@ -95,6 +96,13 @@ fn words(rt: HostRuntime) -> Result<(), Fail> {
 fn answers(rt: HostRuntime) -> Result<(), Fail> {
     let rows = [
         ("check", "", 3, "deck: line 1: NotClosed\n"),
+        (
+            "migrate",
+            "lpcc-certificate 1\ninfeasible\ni : 1 1\nend 1\n",
+            0,
+            "lpcc-certificate 2\ninfeasible\ni : 1 1\nend 1\n",
+        ),
+        ("migrate", BOUNDED, 1, "no line 1 BadHead\n"),
         ("relax", BOUNDED, 0, "relaxation optimal -7\n"),
         (
             "relax --pivots 1",

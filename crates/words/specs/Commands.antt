@@ -5,7 +5,7 @@ use Rattle.clap.specs.Words.{Kinds, Row, Text, all_of, fault_of, first_of, match
 use Rattle.clap.specs.declared.parser.ValueSource.{ValueSource}
 use Rattle.clap.specs.declared.parser.ValueSource.TheVariants.{CommandLine, DefaultValue}
 use Rattle.words.specs.declared.command.Command.{Command}
-use Rattle.words.specs.declared.command.Command.TheVariants.{Bilevel, Check, Generate, Lcp, Relax, Solve}
+use Rattle.words.specs.declared.command.Command.TheVariants.{Bilevel, Check, Generate, Lcp, Migrate, Relax, Solve}
 use Rattle.words.specs.declared.command.Draft.{Draft}
 use Rattle.words.specs.declared.command.Form.{Form}
 use Rattle.words.specs.declared.command.Form.TheVariants.{One, Two}
@@ -75,6 +75,9 @@ draft solve seed columns rows pairs = record { seed = seed; columns = columns; r
 abbrev pub check_of : List Row → Option Command
 check_of rows = if is_beyond_check rows then None else Some Check
 
+abbrev pub migrate_of : List Row → Option Command
+migrate_of rows = if is_beyond_check rows then None else Some Migrate
+
 abbrev pub relax_of : List Row → Option Command
 relax_of rows = if is_beyond_relax rows then None else option_map Relax (number_or USUAL_PIVOTS MOST (first_of (codes "pivots") rows))
 
@@ -122,6 +125,7 @@ bilevel_of rows = if is_beyond_front rows then None else Some (Bilevel (stands (
 abbrev pub command_named : Text → List Row → Option Command
 command_named w rows =
     if bytes_eq w (codes "check") then check_of rows
+    else if bytes_eq w (codes "migrate") then migrate_of rows
     else if bytes_eq w (codes "relax") then relax_of rows
     else if bytes_eq w (codes "gen") then gen_of rows
     else if bytes_eq w (codes "solve") then solve_of rows

@@ -1,7 +1,7 @@
 //! The commands.
 ghost use Rattle.std.specs.Prelude.{◌≡◌, ◌≤◌, map, option_map};
 ghost use Rattle.clap.specs.Words.{first_of, found_of, rows_of};
-ghost use Rattle.words.specs.Commands.{bilevel_of, check_of, command_in, command_named, draft_of, form_of, gen_of, is_beyond_check, is_beyond_front, is_beyond_gen, is_beyond_relax, is_beyond_solve, is_full, is_of_words, lcp_of, number_or, numbers_of, relax_of, settings_of, solve_of, source_of, stands};
+ghost use Rattle.words.specs.Commands.{bilevel_of, check_of, command_in, command_named, draft_of, form_of, gen_of, is_beyond_check, is_beyond_front, is_beyond_gen, is_beyond_relax, is_beyond_solve, is_full, is_of_words, lcp_of, migrate_of, number_or, numbers_of, relax_of, settings_of, solve_of, source_of, stands};
 
 use crate::numbers::{MOST, number_in};
 use clap::ArgMatches;
@@ -56,6 +56,8 @@ pub struct Draft {
 pub enum Command {
     /// Judge the certificate behind a deck.
     Check,
+    /// Write a certificate alone in form 2.
+    Migrate,
     /// Solve a deck without its pairs, with so many pivots for a stage.
     Relax(u64),
     /// Solve a deck.
@@ -187,6 +189,16 @@ fn check_of(matches: &ArgMatches) -> Option<Command>
     }
 }
 
+fn migrate_of(matches: &ArgMatches) -> Option<Command>
+    ensures { result ≡ migrate_of (rows_of (found_of matches.now)) }
+{
+    if is_beyond_check(matches) {
+        None
+    } else {
+        Some(Command::Migrate)
+    }
+}
+
 fn relax_of(matches: &ArgMatches) -> Option<Command>
     ensures { result ≡ relax_of (rows_of (found_of matches.now)) }
 {
@@ -289,6 +301,8 @@ fn command_named(name: &str, matches: &ArgMatches) -> Option<Command>
 {
     if name == "check" {
         check_of(matches)
+    } else if name == "migrate" {
+        migrate_of(matches)
     } else if name == "relax" {
         relax_of(matches)
     } else if name == "gen" {

@@ -1,6 +1,6 @@
 use Rattle.std.proofs.Common.{ap}
 use Rattle.engine.specs.Solved.{alone}
-use Rattle.words.specs.declared.command.Command.TheVariants.{Bilevel, Generate, Lcp, Solve}
+use Rattle.words.specs.declared.command.Command.TheVariants.{Bilevel, Generate, Lcp, Migrate, Solve}
 use Rattle.lpcc.specs.Commands.{by_one_worker}
 use Rattle.lpcc.proofs.Statuses.{at_command, of_solve}
 use Rattle.lpcc.proofs.run.run_command.Goals as goal
@@ -20,3 +20,6 @@ returns-in-Lcp-clause-answered g c = at_command by_one_worker c.args.command (Lc
 
 pub returns-in-Bilevel-clause-answered : goal.returns-in-Bilevel-clause-answered
 returns-in-Bilevel-clause-answered g c = at_command by_one_worker c.args.command (Bilevel c.in-Bilevel.solve) _ _ _ _ _ _ _ _ c.in-Bilevel.is c.run_bilevel.ensures
+
+pub returns-in-Migrate-clause-answered : goal.returns-in-Migrate-clause-answered
+returns-in-Migrate-clause-answered g c = at_command by_one_worker c.args.command Migrate _ _ _ _ _ _ _ _ c.in-Migrate.is (c.convert.ensures.answered, c.convert.ensures.converted)

@@ -1,4 +1,4 @@
-use Rattle.words.specs.declared.command.Command.TheVariants.{Bilevel, Check, Generate, Lcp, Solve}
+use Rattle.words.specs.declared.command.Command.TheVariants.{Bilevel, Check, Generate, Lcp, Migrate, Solve}
 use Rattle.lpcc.specs.Commands.{as_asked}
 use Rattle.lpcc.proofs.Statuses.{at_command}
 use Rattle.lpcc.proofs.run.run_command_as_asked.Goals as goal
@@ -18,3 +18,6 @@ returns-in-Lcp-clause-answered g c = at_command as_asked c.args.command (Lcp c.i
 
 pub returns-in-Bilevel-clause-answered : goal.returns-in-Bilevel-clause-answered
 returns-in-Bilevel-clause-answered g c = at_command as_asked c.args.command (Bilevel c.in-Bilevel.solve) _ _ _ _ _ _ _ _ c.in-Bilevel.is c.run_bilevel.ensures
+
+pub returns-in-Migrate-clause-answered : goal.returns-in-Migrate-clause-answered
+returns-in-Migrate-clause-answered g c = at_command as_asked c.args.command Migrate _ _ _ _ _ _ _ _ c.in-Migrate.is (c.convert.ensures.answered, c.convert.ensures.converted)
