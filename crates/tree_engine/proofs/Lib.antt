@@ -1,10 +1,10 @@
-mod Lists
-mod PathLaws
+pub mod Lists
+pub mod PathLaws
 mod BestLaws
 mod TreeLaws
 mod RunLaws
-mod LoosePairs
+pub mod LoosePairs
 mod Visits
-mod Pieces
+pub mod Pieces
 mod Turns
 mod Sides

@@ -68,7 +68,7 @@ fn start(alloc: Global, case: &Case) -> Result<State, AllocError>
 }
 
 /// The path without choices.
-fn root(alloc: Global) -> Result<NoGood, AllocError>
+pub fn root(alloc: Global) -> Result<NoGood, AllocError>
     ensures { IfOk result (λ path. path ≡ []) }
 {
     let Some(path) = NoGood::from_choices(alloc, &[])? else {

@@ -16,7 +16,8 @@ mod turn;
 mod visit;
 
 pub use answer::{Branch, BranchOptions};
-pub use branching::branch;
+pub use branching::{branch, root};
 pub use laws::{direction_shows_unbounded, lower_best_keeps_a_tree, tree_shows_its_verdict};
 pub use node::{Node, NodeEnd};
+pub use paths::extended;
 pub use tree::Tree;

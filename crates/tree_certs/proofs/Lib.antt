@@ -1,0 +1,4 @@
+mod Resolutions
+mod Soundness
+mod RefutingLaws
+mod CertLaws
