@@ -10,6 +10,8 @@ mod command_tests;
 #[cfg(test)]
 mod deck_tests;
 #[cfg(test)]
+mod form2_tests;
+#[cfg(test)]
 mod gen_tests;
 #[cfg(test)]
 mod group_tests;
