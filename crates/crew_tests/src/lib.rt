@@ -2,4 +2,8 @@
 #![tactic(auto)]
 
 #[cfg(test)]
+mod left_tests;
+#[cfg(test)]
 mod run_tests;
+#[cfg(test)]
+mod runs;

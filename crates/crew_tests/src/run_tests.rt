@@ -1,14 +1,9 @@
 //! Two workers that run at once, and more of them.
-ghost use Rattle.std.specs.Prelude.{◌<◌, ◌-◌, ◌^◌, length};
-
+use crate::runs::{case_in, options_for};
 use cert_text::Cert;
 use crew::solve_with;
-use deck_case::case_of;
-use lpcc_case::Case;
-use mps_pairs::read_deck;
 use nogoods::{Piece, Side};
-use play::{Ending, Options, ShrinkMode, Workers};
-use std::alloc::Global;
+use play::Ending;
 use std::sync::atomic::Ordering::SeqCst;
 use std::sync::atomic::{AtomicBool, AtomicU64};
 use std::test::Fail;
@@ -19,28 +14,6 @@ const DECK: &str =
     "ROWS\n N cost\n G r\nCOLUMNS\n x r 1\n y cost 1\n z cost 0\n w cost 0\nRHS\n rhs r 1\nPAIRS\n p1 COL x COL y\n p2 COL z COL w\nENDATA\n";
 
 const TURNS: u64 = 1_000_000_000;
-
-/// The bytes of a text that is short enough for the readers.
-fn short_bytes(text: &str) -> &[u8]
-    ensures { length result.now < 2 ^ 32 - 1 }
-{
-    let bytes = text.as_bytes();
-    if bytes.len() < 4096 { bytes } else { &[] }
-}
-
-fn case_in(alloc: Global, deck: &str) -> Result<Case, Fail> {
-    let (deck, _) = read_deck(alloc, short_bytes(deck))?;
-    Ok(case_of(alloc, &deck)?)
-}
-
-fn options_for(workers: u32) -> Result<Options, Fail> {
-    Ok(Options {
-        workers: Workers::from_number(workers).ok_or("there are workers")?,
-        pieces: 1_000_000,
-        pivots: 1_000_000,
-        shrink: ShrinkMode::Full,
-    })
-}
 
 /// Holds the worker that draws the piece `1a 2a` until another has published its cut of `1a 2b`.
 #[derive(Drop)]
