@@ -8,7 +8,6 @@ use lp_base::Sequence;
 use nogoods::NoGood;
 
 /// What a certificate of form 2 claims, with what shows it.
-#[derive(Drop)]
 pub enum Cert2 {
     /// The point is feasible and `z` is its cost times its denominator; the lines show that no
     /// feasible point is lower.
@@ -29,8 +28,26 @@ pub enum Cert2 {
     },
 }
 
+/// By a call, which keeps the models of the functions small that own one.
+impl Drop for Cert2 {
+    fn drop(self) {
+        match self {
+            Cert2::Optimal {
+                point: _,
+                z: _,
+                lines: _,
+            } => {}
+            Cert2::Infeasible { lines: _ } => {}
+            Cert2::Unbounded {
+                piece: _,
+                point: _,
+                ray: _,
+            } => {}
+        }
+    }
+}
+
 /// A no-good with its reason, a list of multipliers, or no-goods that no later line names.
-#[derive(Drop)]
 pub enum Cert2Line {
     /// A list of multipliers. Later cuts name it by its number among the lists.
     Shared {
@@ -61,11 +78,42 @@ pub enum Cert2Line {
     },
 }
 
+/// By a call, which keeps the models of the functions small that own one.
+impl Drop for Cert2Line {
+    fn drop(self) {
+        match self {
+            Cert2Line::Shared { mult: _ } => {}
+            Cert2Line::Ray {
+                ng: _,
+                list: _,
+                mult: _,
+            } => {}
+            Cert2Line::Point {
+                ng: _,
+                e: _,
+                list: _,
+                mult: _,
+            } => {}
+            Cert2Line::Derived { ng: _, hints: _ } => {}
+            Cert2Line::Forget { lines: _ } => {}
+        }
+    }
+}
+
 /// A certificate of form 1 or of form 2.
-#[derive(Drop)]
 pub enum AnyCert {
     One(Cert),
     Two(Cert2),
+}
+
+/// By a call, which keeps the models of the functions small that own one.
+impl Drop for AnyCert {
+    fn drop(self) {
+        match self {
+            AnyCert::One(_) => {}
+            AnyCert::Two(_) => {}
+        }
+    }
 }
 
 /// 1 for a no-good line, and 0 for a list or a line that drops others.

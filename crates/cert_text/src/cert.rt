@@ -3,7 +3,6 @@ use lp_base::Sequence;
 use nogoods::NoGood;
 
 /// What a certificate claims, with what shows it.
-#[derive(Drop)]
 pub enum Cert {
     /// The point is feasible and `z` is its cost times its denominator; the lines show that no
     /// feasible point is lower.
@@ -24,6 +23,25 @@ pub enum Cert {
     },
 }
 
+/// By a call, which keeps the models of the functions small that own one.
+impl Drop for Cert {
+    fn drop(self) {
+        match self {
+            Cert::Optimal {
+                point: _,
+                z: _,
+                lines: _,
+            } => {}
+            Cert::Infeasible { lines: _ } => {}
+            Cert::Unbounded {
+                piece: _,
+                point: _,
+                ray: _,
+            } => {}
+        }
+    }
+}
+
 /// The point whose column at each term has the term's number over `d`, and every other column 0.
 #[derive(Drop)]
 pub struct CertPoint {
@@ -32,7 +50,6 @@ pub struct CertPoint {
 }
 
 /// A no-good with its reason.
-#[derive(Drop)]
 pub enum CertLine {
     /// A ray cut: with the no-good's choices tight no point is feasible, and the multipliers on the
     /// constraints are a Farkas certificate of it.
@@ -53,4 +70,19 @@ pub enum CertLine {
         ng: NoGood,
         hints: Sequence<u64>,
     },
+}
+
+/// By a call, which keeps the models of the functions small that own one.
+impl Drop for CertLine {
+    fn drop(self) {
+        match self {
+            CertLine::Ray { ng: _, mult: _ } => {}
+            CertLine::Point {
+                ng: _,
+                e: _,
+                mult: _,
+            } => {}
+            CertLine::Derived { ng: _, hints: _ } => {}
+        }
+    }
 }

@@ -12,11 +12,21 @@ use std::marker::Model;
 use std::sync::Arc;
 
 /// A page of a lane, with a pass to it. Contracts see what the pass has seen.
-#[derive(Drop)]
 pub struct Held {
     page: Arc<Page<CutKeeps>, Global>,
     pass: ReadPass<CutKeeps>,
     room: u32,
+}
+
+/// By a call, which keeps the models of the functions small that own one.
+impl Drop for Held {
+    fn drop(self) {
+        let Held {
+            page: _,
+            pass: _,
+            room: _,
+        } = self;
+    }
 }
 
 impl Model for Held {

@@ -10,7 +10,6 @@ use std::alloc::{AllocFailed, Global};
 use std::marker::Model;
 
 /// A lane of pages, with what was given of it. Contracts see the pages and what the passes have seen.
-#[derive(Drop)]
 pub struct Lane {
     held: Vec<Held>,
     at: usize,
@@ -18,6 +17,20 @@ pub struct Lane {
     given: u128,
     at_ready: u128,
     dry: bool,
+}
+
+/// By a call, which keeps the models of the functions small that own one.
+impl Drop for Lane {
+    fn drop(self) {
+        let Lane {
+            held: _,
+            at: _,
+            place: _,
+            given: _,
+            at_ready: _,
+            dry: _,
+        } = self;
+    }
 }
 
 impl Model for Lane {

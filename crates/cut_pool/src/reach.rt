@@ -18,7 +18,6 @@ use std::sync::Arc;
 
 /// A worker's way into the pool. Contracts see its number, its case, how many publications it has
 /// room for, what it has published in its page, and its lanes.
-#[derive(Drop)]
 pub struct Reach {
     worker: u32,
     case: Arc<Case, Global>,
@@ -26,6 +25,20 @@ pub struct Reach {
     write: WritePass<CutKeeps>,
     spare: u32,
     lanes: Vec<Lane>,
+}
+
+/// By a call, which keeps the models of the functions small that own one.
+impl Drop for Reach {
+    fn drop(self) {
+        let Reach {
+            worker: _,
+            case: _,
+            page: _,
+            write: _,
+            spare: _,
+            lanes: _,
+        } = self;
+    }
 }
 
 impl Model for Reach {

@@ -16,12 +16,23 @@ use std::marker::Model;
 use std::sync::Arc;
 
 /// Where the pages of all lanes are opened and handed out.
-#[derive(Drop)]
 pub struct Shelf {
     case: Arc<Case, Global>,
     lanes: Vec<OpenedLane>,
     rooms: Vec<u32>,
     handed: Vec<Handed>,
+}
+
+/// By a call, which keeps the models of the functions small that own one.
+impl Drop for Shelf {
+    fn drop(self) {
+        let Shelf {
+            case: _,
+            lanes: _,
+            rooms: _,
+            handed: _,
+        } = self;
+    }
 }
 
 impl Model for Shelf {

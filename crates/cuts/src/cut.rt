@@ -8,7 +8,6 @@ use std::alloc::{AllocError, Global};
 use thiserror::Error;
 
 /// A no-good with its reason, multipliers on constraints whose numbers, counted from 0, ascend.
-#[derive(Drop)]
 pub enum Cut {
     /// The weighed sum of the constraints is 0 >= b with b above 0: an extreme ray of the dual.
     Ray {
@@ -23,6 +22,21 @@ pub enum Cut {
         e: i64,
         v: i128,
     },
+}
+
+/// By a call, which keeps the models of the functions small that own one.
+impl Drop for Cut {
+    fn drop(self) {
+        match self {
+            Cut::Ray { ng: _, mult: _ } => {}
+            Cut::Point {
+                ng: _,
+                mult: _,
+                e: _,
+                v: _,
+            } => {}
+        }
+    }
 }
 
 impl Cut {

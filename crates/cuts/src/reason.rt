@@ -24,7 +24,6 @@ pub struct SpentAt {
 
 /// Why a choice of a cut cannot be dropped, told of the system of all constraints and the cut's
 /// other choices.
-#[derive(Drop)]
 pub enum Reason {
     /// A point of the system, lower than the limit where there is one.
     Below(Point),
@@ -34,4 +33,16 @@ pub enum Reason {
     Wide(WideAt),
     /// A stage of the walk of the system spends its pivots.
     Spent(SpentAt),
+}
+
+/// By a call, which keeps the models of the functions small that own one.
+impl Drop for Reason {
+    fn drop(self) {
+        match self {
+            Reason::Below(_) => {}
+            Reason::Unbounded(_, _) => {}
+            Reason::Wide(_) => {}
+            Reason::Spent(_) => {}
+        }
+    }
 }

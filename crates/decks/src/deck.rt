@@ -73,7 +73,6 @@ pub struct GroupLine {
 /// Whether the objective is to be least or greatest; the objective and the rows other than N rows in
 /// file order, the place of the objective among them, the columns, entries, pairs and groups in file
 /// order, and the line of ENDATA.
-#[derive(Drop)]
 pub struct Deck {
     pub sense: Sense,
     pub rows: Sequence<Row>,
@@ -83,4 +82,20 @@ pub struct Deck {
     pub pairs: Sequence<PairLine>,
     pub groups: Sequence<GroupLine>,
     pub end_line: u32,
+}
+
+/// By a call, which keeps the models of the functions small that own one.
+impl Drop for Deck {
+    fn drop(self) {
+        let Deck {
+            sense: _,
+            rows: _,
+            objective: _,
+            columns: _,
+            entries: _,
+            pairs: _,
+            groups: _,
+            end_line: _,
+        } = self;
+    }
 }

@@ -14,12 +14,23 @@ use std::marker::Model;
 
 /// A dictionary: for each basic form a row over the nonbasic forms, narrow and without a common
 /// divisor above 1. Contracts see its rows and its two lists of forms.
-#[derive(Drop)]
 pub struct Dict {
     rows: Vec<Row>,
     basic: Vec<Form>,
     nonbasic: Vec<Form>,
     columns: u32,
+}
+
+/// By a call, which keeps the models of the functions small that own one.
+impl Drop for Dict {
+    fn drop(self) {
+        let Dict {
+            rows: _,
+            basic: _,
+            nonbasic: _,
+            columns: _,
+        } = self;
+    }
 }
 
 impl Model for Dict {

@@ -9,11 +9,21 @@ use std::marker::Model;
 
 /// A row: its denominator times a form is the sum of its entries times the nonbasic forms at
 /// their places, and its constant. Contracts see this equation.
-#[derive(Drop)]
 pub struct Row {
     denominator: i64,
     constant: i64,
     entries: Vec<(u32, i64)>,
+}
+
+/// By a call, which keeps the models of the functions small that own one.
+impl Drop for Row {
+    fn drop(self) {
+        let Row {
+            denominator: _,
+            constant: _,
+            entries: _,
+        } = self;
+    }
 }
 
 impl Model for Row {

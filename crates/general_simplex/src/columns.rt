@@ -14,11 +14,20 @@ pub struct ColumnBounds {
 }
 
 /// The columns of a case with their bounds, and which constraints these are.
-#[derive(Drop)]
 pub struct Columns {
     pub bounds: Vec<ColumnBounds>,
     /// For each constraint the bound that it is, where it is one of a column.
     pub bound_of: Vec<Option<Bound>>,
+}
+
+/// By a call, which keeps the models of the functions small that own one.
+impl Drop for Columns {
+    fn drop(self) {
+        let Columns {
+            bounds: _,
+            bound_of: _,
+        } = self;
+    }
 }
 
 /// A constraint on one column: `factor` times the column is at least `rhs`.

@@ -6,7 +6,6 @@ use std::alloc::AllocError;
 
 /// A standing dictionary of a case in numbers of one width, with the constraints that are held with
 /// equality and the limit on the cost.
-#[derive(Drop)]
 pub struct Simplex<N: Number> {
     pub(crate) rows: Vec<Row<N>>,
     /// The columns of the case, the slacks of its constraints of several terms, and the cost.
@@ -33,6 +32,28 @@ pub struct Simplex<N: Number> {
     pub(crate) held: Vec<u32>,
     /// A number did not fit, and the dictionary is to be made anew.
     pub(crate) overflowed: bool,
+}
+
+/// By a call, which keeps the models of the functions small that own one.
+impl<N: Number + Drop> Drop for Simplex<N> {
+    fn drop(self) {
+        let Simplex {
+            rows: _,
+            variables: _,
+            nonbasic: _,
+            pattern: _,
+            touched: _,
+            violations: _,
+            terms: _,
+            products: _,
+            scales: _,
+            bounds: _,
+            cost: _,
+            limit: _,
+            held: _,
+            overflowed: _,
+        } = self;
+    }
 }
 
 fn moved(count: u32, up: bool) -> u32 {

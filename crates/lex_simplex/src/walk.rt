@@ -15,13 +15,25 @@ use std::alloc::{AllocError, Global};
 use std::marker::Model;
 
 /// A place of a walk: the dictionary there, and how far the walk has come.
-#[derive(Drop)]
 pub struct Walk {
     dict: Dict,
     looked: u32,
     stage: u32,
     pivots: u64,
     steps: u128,
+}
+
+/// By a call, which keeps the models of the functions small that own one.
+impl Drop for Walk {
+    fn drop(self) {
+        let Walk {
+            dict: _,
+            looked: _,
+            stage: _,
+            pivots: _,
+            steps: _,
+        } = self;
+    }
 }
 
 impl Model for Walk {

@@ -12,7 +12,6 @@ use std::marker::Model;
 
 /// An instance with the limits that keep every sum of a test below 2^127. Contracts see it as
 /// its parts.
-#[derive(Drop)]
 pub struct Case {
     columns: u32,
     cost: Sequence<i64>,
@@ -21,6 +20,21 @@ pub struct Case {
     sense: Sense,
     constraints: Sequence<Constraint>,
     pairs: Sequence<(u32, u32)>,
+}
+
+/// By a call, which keeps the models of the functions small that own one.
+impl Drop for Case {
+    fn drop(self) {
+        let Case {
+            columns: _,
+            cost: _,
+            scale: _,
+            offset: _,
+            sense: _,
+            constraints: _,
+            pairs: _,
+        } = self;
+    }
 }
 
 impl Model for Case {

@@ -15,11 +15,21 @@ pub enum Kind {
 
 /// The sum of the terms is at least, or equal to, the right side. A term is a column, counted
 /// from 0, with its coefficient.
-#[derive(Drop)]
 pub struct Constraint {
     pub kind: Kind,
     pub terms: Sequence<(u32, i64)>,
     pub rhs: i64,
+}
+
+/// By a call, which keeps the models of the functions small that own one.
+impl Drop for Constraint {
+    fn drop(self) {
+        let Constraint {
+            kind: _,
+            terms: _,
+            rhs: _,
+        } = self;
+    }
 }
 
 impl Constraint {

@@ -6,11 +6,17 @@ use std::alloc::{AllocError, Global};
 
 /// The point `x / d`, a number for each column over one denominator, with `z` the sum of the costs
 /// times `x`.
-#[derive(Drop)]
 pub struct Point {
     pub d: i64,
     pub x: Sequence<i64>,
     pub z: i128,
+}
+
+/// By a call, which keeps the models of the functions small that own one.
+impl Drop for Point {
+    fn drop(self) {
+        let Point { d: _, x: _, z: _ } = self;
+    }
 }
 
 impl Point {

@@ -21,11 +21,21 @@ use std::marker::Model;
 use std::mem::replace;
 
 /// The names of the groups, the groups, and how many pairs they make.
-#[derive(Drop)]
 pub struct GroupTable<'a> {
     names: Names<'a>,
     groups: Vec<GroupLine>,
     pairs: usize,
+}
+
+/// By a call, which keeps the models of the functions small that own one.
+impl<'a> Drop for GroupTable<'a> {
+    fn drop(self) {
+        let GroupTable {
+            names: _,
+            groups: _,
+            pairs: _,
+        } = self;
+    }
 }
 
 impl<'a> Model for GroupTable<'a> {

@@ -21,10 +21,16 @@ use std::marker::Model;
 use std::mem::replace;
 
 /// The names of the pairs, and the pairs.
-#[derive(Drop)]
 pub struct PairTable<'a> {
     names: Names<'a>,
     pairs: Sequence<PairLine>,
+}
+
+/// By a call, which keeps the models of the functions small that own one.
+impl<'a> Drop for PairTable<'a> {
+    fn drop(self) {
+        let PairTable { names: _, pairs: _ } = self;
+    }
 }
 
 impl<'a> Model for PairTable<'a> {

@@ -19,12 +19,23 @@ use std::mem::replace;
 
 /// The columns, the rows in which the last one has entries, how many entries the text names, and
 /// the entries of the deck.
-#[derive(Drop)]
 pub struct ColumnTable<'a> {
     names: Names<'a>,
     here: Names<'a>,
     count: u32,
     entries: Sequence<Entry>,
+}
+
+/// By a call, which keeps the models of the functions small that own one.
+impl<'a> Drop for ColumnTable<'a> {
+    fn drop(self) {
+        let ColumnTable {
+            names: _,
+            here: _,
+            count: _,
+            entries: _,
+        } = self;
+    }
 }
 
 impl<'a> Model for ColumnTable<'a> {

@@ -10,9 +10,15 @@ use std::marker::Model;
 
 /// A set of choices without both sides of a pair. Contracts see the list of its choices, whose
 /// pairs ascend strictly.
-#[derive(Drop)]
 pub struct NoGood {
     held: SmallVec<Choice, 4>,
+}
+
+/// By a call, which keeps the models of the functions small that own one.
+impl Drop for NoGood {
+    fn drop(self) {
+        let NoGood { held: _ } = self;
+    }
 }
 
 impl Model for NoGood {

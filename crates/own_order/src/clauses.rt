@@ -4,7 +4,6 @@ use nogoods::{Choice, Side};
 use std::alloc::{AllocError, Global};
 
 /// Clauses, with the trail over them.
-#[derive(Drop)]
 pub struct Clauses {
     pub alloc: Global,
     /// The choices of each clause.
@@ -17,6 +16,21 @@ pub struct Clauses {
     /// What a conflict adds to the activity of a pair.
     pub bump: u64,
     pub refuted: bool,
+}
+
+/// By a call, which keeps the models of the functions small that own one.
+impl Drop for Clauses {
+    fn drop(self) {
+        let Clauses {
+            alloc: _,
+            lists: _,
+            named_in: _,
+            looked_at: _,
+            trail: _,
+            bump: _,
+            refuted: _,
+        } = self;
+    }
 }
 
 /// What a clause says under the trail.

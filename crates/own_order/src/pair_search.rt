@@ -30,7 +30,6 @@ const MOST_LOWER: u64 = 3;
 const MOST_NODES: u64 = 100;
 
 /// A search that is kept between runs. Contracts see what it has found.
-#[derive(Drop)]
 pub struct PairSearch {
     alloc: Global,
     best: Option<Point>,
@@ -42,6 +41,23 @@ pub struct PairSearch {
     known: KnownPoints,
     unknown: u64,
     lower: u64,
+}
+
+/// By a call, which keeps the models of the functions small that own one.
+impl Drop for PairSearch {
+    fn drop(self) {
+        let PairSearch {
+            alloc: _,
+            best: _,
+            cuts: _,
+            waiting: _,
+            clauses: _,
+            probe: _,
+            known: _,
+            unknown: _,
+            lower: _,
+        } = self;
+    }
 }
 
 impl Model for PairSearch {

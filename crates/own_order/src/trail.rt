@@ -28,7 +28,6 @@ const NOTHING: PairState = PairState {
 };
 
 /// The pairs, and the assumed choices in their order. A level begins with each decision.
-#[derive(Drop)]
 pub struct Trail {
     pub pairs: Vec<PairState>,
     pub choices: Vec<Choice>,
@@ -36,6 +35,18 @@ pub struct Trail {
     decisions: Vec<usize>,
     /// The number of choices whose clauses were looked at.
     pub propagated: usize,
+}
+
+/// By a call, which keeps the models of the functions small that own one.
+impl Drop for Trail {
+    fn drop(self) {
+        let Trail {
+            pairs: _,
+            choices: _,
+            decisions: _,
+            propagated: _,
+        } = self;
+    }
 }
 
 /// The other side of the pair.

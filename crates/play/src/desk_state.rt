@@ -26,7 +26,6 @@ use std::marker::Model;
 
 /// The absorbed cuts with their log, the pieces in flight and those set aside, the number of
 /// draws, the best point, a kept unbounded outcome and the verdict. Contracts see these parts.
-#[derive(Drop)]
 pub(crate) struct DeskState {
     absorbed: Vec<Cut>,
     log: Log,
@@ -36,6 +35,22 @@ pub(crate) struct DeskState {
     best: Option<Point>,
     unbounded: Option<Direction>,
     verdict: Option<VerdictKind>,
+}
+
+/// By a call, which keeps the models of the functions small that own one.
+impl Drop for DeskState {
+    fn drop(self) {
+        let DeskState {
+            absorbed: _,
+            log: _,
+            flight: _,
+            aside: _,
+            drawn: _,
+            best: _,
+            unbounded: _,
+            verdict: _,
+        } = self;
+    }
 }
 
 impl Model for DeskState {

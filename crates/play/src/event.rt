@@ -28,11 +28,21 @@ pub struct Aside {
 }
 
 /// A point of a piece, and a direction that stays in the piece and in which the cost falls.
-#[derive(Drop)]
 pub struct Direction {
     pub piece: Piece,
     pub point: Point,
     pub ray: Ray,
+}
+
+/// By a call, which keeps the models of the functions small that own one.
+impl Drop for Direction {
+    fn drop(self) {
+        let Direction {
+            piece: _,
+            point: _,
+            ray: _,
+        } = self;
+    }
 }
 
 /// A verdict without its value.

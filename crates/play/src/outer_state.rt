@@ -49,11 +49,21 @@ impl Counts {
 }
 
 /// The lanes, for each worker the numbers of items read, and the turns. Contracts see these parts.
-#[derive(Drop)]
 pub(crate) struct OuterState {
     lanes: Vec<Sequence<Cut>>,
     read: Vec<Counts>,
     turns: Sequence<Option<Point>>,
+}
+
+/// By a call, which keeps the models of the functions small that own one.
+impl Drop for OuterState {
+    fn drop(self) {
+        let OuterState {
+            lanes: _,
+            read: _,
+            turns: _,
+        } = self;
+    }
 }
 
 impl Model for OuterState {

@@ -18,10 +18,16 @@ use std::marker::Model;
 
 /// The state of a run: the desk part, and round it the lanes, what each worker has read of them,
 /// and the turns at the incumbent. Contracts see the state of the pure machine.
-#[derive(Drop)]
 pub struct State {
     desk: DeskState,
     outer: OuterState,
+}
+
+/// By a call, which keeps the models of the functions small that own one.
+impl Drop for State {
+    fn drop(self) {
+        let State { desk: _, outer: _ } = self;
+    }
 }
 
 impl Model for State {

@@ -16,21 +16,41 @@ use nogoods::{Choice, NoGood};
 use std::alloc::{AllocError, Global};
 
 /// A dictionary in numbers of 64 bits, or of 128 bits where those did not do.
-#[derive(Drop)]
 enum Dictionary {
     Narrow(Simplex<i64>),
     Wide(Simplex<i128>),
 }
 
+/// By a call, which keeps the models of the functions small that own one.
+impl Drop for Dictionary {
+    fn drop(self) {
+        match self {
+            Dictionary::Narrow(_) => {}
+            Dictionary::Wide(_) => {}
+        }
+    }
+}
+
 /// A standing dictionary that is asked again and again about one case, so that each question goes on
 /// from where the last one ended. Asked about another case, it answers nothing false, and little.
-#[derive(Drop)]
 pub struct Probe {
     pub(crate) alloc: Global,
     dictionary: Dictionary,
     /// Room for the constraints of choices.
     held: Vec<u32>,
     pub(crate) dropped: u64,
+}
+
+/// By a call, which keeps the models of the functions small that own one.
+impl Drop for Probe {
+    fn drop(self) {
+        let Probe {
+            alloc: _,
+            dictionary: _,
+            held: _,
+            dropped: _,
+        } = self;
+    }
 }
 
 /// Asks the narrow dictionary. None where a number did not fit it.

@@ -11,11 +11,21 @@ const NONE: usize = usize::MAX;
 
 /// For each pair the newest step whose last choice is side A there, and side B; for each step the
 /// newest of those before it with the same last choice.
-#[derive(Drop)]
 pub(crate) struct Index {
     a: Vec<usize>,
     b: Vec<usize>,
     before: Vec<usize>,
+}
+
+/// By a call, which keeps the models of the functions small that own one.
+impl Drop for Index {
+    fn drop(self) {
+        let Index {
+            a: _,
+            b: _,
+            before: _,
+        } = self;
+    }
 }
 
 fn at_or_none(list: &[usize], at: usize) -> usize {

@@ -22,10 +22,16 @@ use std::alloc::{AllocError, Global};
 
 /// A walk that is kept between searches, beside its log. After an error it is of no more use:
 /// make a new one.
-#[derive(Drop)]
 pub struct Search {
     index: Index,
     walk: Walk,
+}
+
+/// By a call, which keeps the models of the functions small that own one.
+impl Drop for Search {
+    fn drop(self) {
+        let Search { index: _, walk: _ } = self;
+    }
 }
 
 fn is_witness(log: &Log, pairs: u32, piece: &Piece) -> bool

@@ -18,10 +18,19 @@ struct Implied {
 }
 
 /// The sides that are assumed, by pair, and what was implied, in its order.
-#[derive(Drop)]
 struct Run {
     sides: Vec<Option<Side>>,
     implied: Vec<Implied>,
+}
+
+/// By a call, which keeps the models of the functions small that own one.
+impl Drop for Run {
+    fn drop(self) {
+        let Run {
+            sides: _,
+            implied: _,
+        } = self;
+    }
 }
 
 /// What the sides that are assumed make of a no-good.

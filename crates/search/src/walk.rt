@@ -45,10 +45,19 @@ pub(crate) enum Phase {
 }
 
 /// The sides of the first pairs, and for each B why A is exhausted there.
-#[derive(Drop)]
 pub(crate) struct Walk {
     pub(crate) sides: Vec<Side>,
     pub(crate) reasons: Vec<Reason>,
+}
+
+/// By a call, which keeps the models of the functions small that own one.
+impl Drop for Walk {
+    fn drop(self) {
+        let Walk {
+            sides: _,
+            reasons: _,
+        } = self;
+    }
 }
 
 /// What follows at these sides, where a step bars side B behind them and side A is exhausted.

@@ -34,9 +34,9 @@ pub fn place_of(ng: &NoGood, choice: Choice) -> Option<usize>
 fn lasting(reason: Option<Reason>) -> Option<Reason>
     ensures { IfSome result (λ r. IsLasting r × (reason ≡ Some r)) }
 {
-    match reason {
-        Some(Reason::Below(point)) => Some(Reason::Below(point)),
-        Some(Reason::Unbounded(point, ray)) => Some(Reason::Unbounded(point, ray)),
+    match &reason {
+        Some(Reason::Below(_)) => reason,
+        Some(Reason::Unbounded(_, _)) => reason,
         _ => None,
     }
 }

@@ -17,17 +17,29 @@ use std::marker::Model;
 const MOST_KNOWN: usize = 4000;
 
 /// A point with the sides that are loose there.
-#[derive(Drop)]
 pub struct KnownPoint {
     point: Point,
     loose: Vec<u64>,
 }
 
+/// By a call, which keeps the models of the functions small that own one.
+impl Drop for KnownPoint {
+    fn drop(self) {
+        let KnownPoint { point: _, loose: _ } = self;
+    }
+}
+
 /// Points that were found in earlier solves, the oldest first. Each use of one is tested, so they
 /// may be points of another case, and need not be below any limit.
-#[derive(Drop)]
 pub struct KnownPoints {
     held: Vec<KnownPoint>,
+}
+
+/// By a call, which keeps the models of the functions small that own one.
+impl Drop for KnownPoints {
+    fn drop(self) {
+        let KnownPoints { held: _ } = self;
+    }
 }
 
 impl Model for KnownPoints {

@@ -4,12 +4,22 @@ use simplex_numbers::Number;
 use std::alloc::{AllocError, Global};
 
 /// In which rows each column is not zero: a bit for each row, and their number.
-#[derive(Drop)]
 pub struct Pattern {
     counts: Vec<u64>,
     words: Vec<u64>,
     /// How many words a column has.
     stride: usize,
+}
+
+/// By a call, which keeps the models of the functions small that own one.
+impl Drop for Pattern {
+    fn drop(self) {
+        let Pattern {
+            counts: _,
+            words: _,
+            stride: _,
+        } = self;
+    }
 }
 
 /// The place and the mask of the bit of a row.

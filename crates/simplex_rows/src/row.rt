@@ -13,7 +13,6 @@ const GROWTH: u32 = 6;
 
 /// `den` times the row's variable is the constant and the sum of the entries, each times the
 /// variable of its column.
-#[derive(Drop)]
 pub struct Row<N> {
     pub entries: Vec<N>,
     /// A bit for each entry that is not zero.
@@ -26,6 +25,21 @@ pub struct Row<N> {
     pub reduced_magnitude: N,
     /// The variable that is basic here.
     pub variable: usize,
+}
+
+/// By a call, which keeps the models of the functions small that own one.
+impl<N: Drop> Drop for Row<N> {
+    fn drop(self) {
+        let Row {
+            entries: _,
+            nonzero: _,
+            constant: _,
+            den: _,
+            magnitude: _,
+            reduced_magnitude: _,
+            variable: _,
+        } = self;
+    }
 }
 
 /// The row of the variable that leaves, as the other rows need it. Its terms stand beside it.

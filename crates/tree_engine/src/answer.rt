@@ -15,7 +15,6 @@ pub struct BranchOptions {
 }
 
 /// The answer of a search.
-#[derive(Drop)]
 pub enum Branch {
     /// No feasible point is lower than the best one, and without one none is feasible, as the tree
     /// shows. It has so many nodes.
@@ -51,4 +50,38 @@ pub enum Branch {
         left: NoGood,
         run: Sequence<Node>,
     },
+}
+
+/// By a call, which keeps the models of the functions small that own one.
+impl Drop for Branch {
+    fn drop(self) {
+        match self {
+            Branch::Closed {
+                best: _,
+                tree: _,
+                nodes: _,
+            } => {}
+            Branch::Unbounded {
+                piece: _,
+                point: _,
+                ray: _,
+                nodes: _,
+            } => {}
+            Branch::Overflow {
+                piece: _,
+                at: _,
+                run: _,
+            } => {}
+            Branch::PivotsSpent {
+                piece: _,
+                at: _,
+                run: _,
+            } => {}
+            Branch::NodesSpent {
+                nodes: _,
+                left: _,
+                run: _,
+            } => {}
+        }
+    }
 }
