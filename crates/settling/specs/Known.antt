@@ -16,6 +16,11 @@ pub record Known : Type 0 where
 abbrev pub nothing_known : Known
 nothing_known = record { incumbent = None; cuts = []; found = None }
 
+-- the cuts of a search, none where it has not begun
+abbrev pub searched : Option Found → List Cut
+searched None = []
+searched (Some f) = f.cuts
+
 -- what a search has found, where it has begun, is true of the instance
 abbrev pub IsTrueSearch : Instance → Option Found → Type 0
 IsTrueSearch a None = Unit {0}

@@ -1,5 +1,5 @@
 //! What is known of a case while its pieces are settled.
-ghost use Rattle.std.specs.Prelude.{◌≡◌, IfOk, IfSome, Some};
+ghost use Rattle.std.specs.Prelude.{◌≡◌, All, Contains, IfNone, IfOk, IfSome, Some};
 ghost use Rattle.std.specs.Option.{option_copied};
 ghost use Rattle.lpcc_case.specs.Instance.{Instance};
 ghost use Rattle.cuts.specs.Cuts.{Passes};
@@ -7,7 +7,7 @@ ghost use Rattle.reasons.specs.Reasons.{IsActiveAgainst};
 ghost use Rattle.shrink.specs.Shrinking.{IsShrunk};
 ghost use Rattle.own_order.specs.Searching.{IsAgainst};
 ghost use Rattle.play.specs.Points.{IsBest, IsCandidate, lowered};
-ghost use Rattle.settling.specs.Known.{IsTrueKnowledge, nothing_known};
+ghost use Rattle.settling.specs.Known.{IsTrueKnowledge, nothing_known, searched};
 
 use crate::copies::copy_best;
 use crate::searching::{add_known, begun, copy_at, gone_on, push_known};
@@ -28,7 +28,6 @@ pub const PLAIN_PIECES: u64 = 8;
 /// loose, and a search over the pairs in an order of its own, which begins when some pieces of the
 /// run have been drawn. Contracts see the incumbent, the cuts that wait for the search, and what the
 /// search has found.
-#[derive(Drop)]
 pub struct Knowledge {
     alloc: Global,
     /// The search of another worker has another seed.
@@ -45,6 +44,24 @@ pub struct Knowledge {
     is_refuted: bool,
     /// The places of the cuts that were found and not taken yet.
     fresh: Vec<usize>,
+}
+
+/// By a call, which keeps the models of the functions small that own one.
+impl Drop for Knowledge {
+    fn drop(self) {
+        let Knowledge {
+            alloc: _,
+            seed: _,
+            incumbent: _,
+            points: _,
+            cuts: _,
+            search: _,
+            conflicts: _,
+            is_over: _,
+            is_refuted: _,
+            fresh: _,
+        } = self;
+    }
 }
 
 impl Model for Knowledge {
@@ -168,25 +185,42 @@ impl Knowledge {
         }
     }
 
-    /// A copy of a cut that the search has and that bars the piece and is active against the
-    /// incumbent, of fewest choices. None where it has none.
-    pub(crate) fn cut_against(&self, case: &Case, piece: &Piece) -> Result<Option<Cut>, AllocError>
+    /// The cut that the search has and that bars the piece and is active against the incumbent, of
+    /// fewest choices. None exactly where no cut of the search does, or the search has not begun.
+    pub fn cut_against(&self, case: &Case, piece: &Piece) -> Option<&Cut>
+        requires known { IsTrueKnowledge case.now self.now }
+        ensures against { IfSome (option_copied result) (λ c. Contains (searched self.now.found) c × IsAgainst piece.now self.now.incumbent c) }
+        ensures none { IfNone (option_copied result) (All (λ c. IsAgainst piece.now self.now.incumbent c → ⊥) (searched self.now.found)) }
+    {
+        let Some(search) = &self.search else {
+            return None;
+        };
+        search.cut_against(case, piece, self.incumbent.as_ref())
+    }
+
+    /// A copy of the cut that the search has against the piece. None where it has none.
+    pub(crate) fn copy_against(&self, case: &Case, piece: &Piece) -> Result<Option<Cut>, AllocError>
         requires known { IsTrueKnowledge case.now self.now }
         ensures { IfOk result (λ made. IfSome made (λ c. Passes case.now c × IsAgainst piece.now self.now.incumbent c)) }
     {
-        let Some(search) = &self.search else {
-            return Ok(None);
-        };
-        let Some(cut) = search.cut_against(case, piece, self.incumbent.as_ref()) else {
-            return Ok(None);
-        };
-        Ok(Some(cut.copy(self.alloc)?))
+        match self.cut_against(case, piece) {
+            Some(cut) => Ok(Some(cut.copy(self.alloc)?)),
+            None => Ok(None),
+        }
     }
 
-    /// Whether there is something to search or to be taken for a drawn piece. The first pieces of a
-    /// run are settled without a search.
-    pub fn is_searching(&self, ticket: &Ticket) -> bool {
-        ticket.number >= PLAIN_PIECES && !(self.is_over && self.fresh.is_empty())
+    /// Whether there is something to search or to be taken before a drawn piece is settled. There is
+    /// nothing to search where a known cut bars the piece, and for the first pieces of a run.
+    pub fn is_searching(&self, case: &Case, ticket: &Ticket) -> bool
+        requires known { IsTrueKnowledge case.now self.now }
+    {
+        if ticket.number < PLAIN_PIECES {
+            return false;
+        }
+        if !self.fresh.is_empty() {
+            return true;
+        }
+        !self.is_over && self.cut_against(case, &ticket.piece).is_none()
     }
 
     /// Whether the search has ended refuted, and all that it found was taken. Nothing is claimed of
@@ -274,7 +308,8 @@ impl Knowledge {
     }
 
     /// Searches to the end before a piece is settled, unless it is one of the first pieces of the
-    /// run. In all the search meets at most as many conflicts as pieces may be drawn.
+    /// run, or a known cut bars it. In all the search meets at most as many conflicts as pieces may
+    /// be drawn.
     pub(crate) fn prepare(
         &mut self,
         case: &Case,
@@ -288,6 +323,9 @@ impl Knowledge {
             return Ok(());
         }
         self.begin(case)?;
+        if self.is_over || self.cut_against(case, &ticket.piece).is_some() {
+            return Ok(());
+        }
         let conflicts = most.saturating_sub(self.conflicts);
         self.search_on(case, conflicts)?;
         self.is_over = true;

@@ -155,8 +155,8 @@ fn by_program(
 
 /// How the piece of a ticket is to be settled: by a cut that bars it, by a direction in which the
 /// cost falls without end, or by the end of a walk without an answer. A known cut serves where one
-/// bars the piece and is active; else the program of the piece's choices is solved. Where
-/// `PLAIN_PIECES` pieces of the run were drawn before it, the search over the pairs is made first,
+/// bars the piece and is active; else the program of the piece's choices is solved. Where none serves
+/// and `PLAIN_PIECES` pieces of the run were drawn before it, the search over the pairs is made first,
 /// with as many conflicts as pieces may be drawn. The best point of either becomes the incumbent.
 ///
 /// # Errors
@@ -176,7 +176,7 @@ pub fn outcome_of(
 {
     let piece = &ticket.piece;
     known.prepare(case, ticket, options.pieces)?;
-    match known.cut_against(case, piece)? {
+    match known.copy_against(case, piece)? {
         Some(cut) => by_cut(alloc, case, options, known, piece, cut),
         None => by_program(alloc, case, options, known, piece),
     }

@@ -108,8 +108,8 @@ fn search_slice<R: Wait>(
     ready_again(alloc, case, options, &mut held, reach, ticket)
 }
 
-/// Searches for as long as the search goes on, and reads the lanes of all others behind each slice.
-/// Gives a cut that bars the piece, if one was read.
+/// Searches for as long as the search goes on and no known cut bars the piece, and reads the lanes of
+/// all others behind each slice. Gives a cut of another worker that bars the piece, if one was read.
 #[tactic(auto, using(crate::proofs::OwnLaws::heard_none))]
 pub fn search<R: Wait>(
     rt: &R,
@@ -138,7 +138,7 @@ pub fn search<R: Wait>(
     ensures read { OnOk result (HasCaughtUp reach.new) }
 {
     for _ in 0..options.pieces / SLICE {
-        if !known.is_searching(ticket) {
+        if !known.is_searching(case, ticket) {
             return Ok(None);
         }
         search_slice(

@@ -178,7 +178,8 @@ fn take_turns<R: Wait, G: Gate>(
 ///    the bell.
 /// 2. The lanes of all other workers are read to their end.
 /// 3. Where a cut that was read bars the piece and is active, it settles the piece.
-/// 4. Else the piece is solved, the best point is offered to the other workers, the cut is shrunk and
+/// 4. Else a cut that the worker's search has settles the piece where one bars it and is active, or
+///    the piece is solved. The best point is offered to the other workers, the cut is shrunk and
 ///    published.
 /// 5. The ticket is settled, and the bell is rung for all who wait.
 ///
