@@ -1,3 +1,4 @@
 pub mod Tickets
 pub mod Desks
 pub mod Settling
+pub mod Absorbing

@@ -26,7 +26,7 @@ use std::sync::Arc;
 /// desk that comes out of a lock.
 #[derive(Drop)]
 pub struct Desk {
-    run: RecordedPart,
+    pub(crate) run: RecordedPart,
     shelf: Shelf,
     abandoned: bool,
     refuted: bool,

@@ -2,6 +2,7 @@
 //! which the workers' pages stand. The desk is held behind a lock.
 #![tactic(auto)]
 
+mod absorbing;
 mod answer;
 mod desk;
 mod tickets;

@@ -6,3 +6,4 @@ pub mod FormLaws
 pub mod LineLaws
 pub mod CloseLaws
 pub mod OverLaws
+pub mod AbsorbLaws

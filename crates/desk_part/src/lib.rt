@@ -2,6 +2,7 @@
 //! is reached, and how the run ends.
 #![tactic(auto)]
 
+mod absorbing;
 mod answer;
 mod closing;
 mod desk_part;

@@ -4,6 +4,7 @@ ghost use Rattle.std.specs.Arc.{arc_value};
 ghost use Rattle.play.specs.Lawful.{IsFree};
 ghost use Rattle.play.specs.Parts.{start};
 ghost use Rattle.play.specs.Truth.{AreApart, number_of};
+ghost use Rattle.desk_part.specs.Absorbing.{EndsEach};
 ghost use Rattle.desk_part.specs.DeskParts.{DrawsOn, EndingKeepsForm, IsBack, IsEndingOfRecord, IsOver, LearnsOn, MayBeSettled, SettlesOn, standing};
 
 use crate::{DeskPart, Draw};
@@ -15,11 +16,21 @@ use std::sync::Arc;
 
 /// A desk part with its case and its options. Contracts see the three. The type keeps that some
 /// record leads to the part.
-#[derive(Drop)]
 pub struct RecordedPart {
     case: Arc<Case, Global>,
     options: Options,
-    part: DeskPart,
+    pub(crate) part: DeskPart,
+}
+
+/// By a call, which keeps the models of the functions small that own one.
+impl Drop for RecordedPart {
+    fn drop(self) {
+        let RecordedPart {
+            case: _,
+            options: _,
+            part: _,
+        } = self;
+    }
 }
 
 impl Model for RecordedPart {
@@ -116,6 +127,7 @@ impl RecordedPart {
         requires over { IsOver self.case_of self.options self.part }
         ensures ending { IfOk result (IsEndingOfRecord self.case_of self.options) }
         ensures form { IfOk result EndingKeepsForm }
+        ensures each { IfOk result (EndsEach self.case_of self.options self.part) }
     {
         let RecordedPart {
             case,
