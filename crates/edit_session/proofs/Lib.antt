@@ -1,0 +1,4 @@
+pub mod RecordLaws
+pub mod RunLaws
+pub mod TakingLaws
+pub mod Unbarred
