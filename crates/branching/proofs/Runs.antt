@@ -1,11 +1,11 @@
 -- What a run of the command says.
-use Rattle.std.proofs.Common.{ℕ, ◌<◌, ◌^◌, ◌≡◌, ◌∙◌, refl, sym, subst, arith, Bool, List, Option, Some}
-use Rattle.std.specs.Prelude.{◌↔◌, length}
+use Rattle.std.proofs.Common.{ℕ, ◌<◌, ◌^◌, ◌≡◌, ◌∙◌, sym, ap, subst, arith, Bool, List, Option, Some}
+use Rattle.std.specs.Prelude.{◌↔◌, Result, Ok, Err, IfOk}
 use Rattle.std.specs.Io.KnownBytes.{Appends}
 use Rattle.lpcc_case.specs.Instance.{Instance}
+use Rattle.lpcc_case.specs.Cases.{IsCase}
 use Rattle.lpcc_case.specs.Verdicts.{IsTrueOf}
 use Rattle.lpcc_case.specs.declared.verdict.Verdict.{Verdict}
-use Rattle.cert_text.specs.Certs.{lines_of}
 use Rattle.cert_text.specs.declared.cert.Cert.{Cert}
 use Rattle.cert_check.proofs.Truth.{accepted_true}
 use Rattle.cert2_text.proofs.Certificates2.{spelling_spells}
@@ -17,19 +17,68 @@ use Rattle.decks.specs.Texts.{Spells}
 use Rattle.decks.specs.declared.deck.Deck as decks
 use Rattle.deck_case.specs.DeckCases.{HasCase}
 use Rattle.deck_case.specs.DeckVerdicts.{IsTrueOfDeck}
-use Rattle.command.specs.Inputs.{IsTrueOfBytes, SpellsAlone}
+use Rattle.walks.proofs.Walks.{large_budget_is_not_spent}
+use Rattle.command.specs.Inputs.{IsReadAlone, IsTrueOfBytes, SpellsAlone}
+use Rattle.command.specs.Refusals as refusals
 use Rattle.command.specs.Runs.{IsRun}
-use Rattle.command.proofs.CaseRuns.{Told, told, zero_is_other}
+use Rattle.command.specs.declared.reading.TheConstants.{MOST_DECK_BYTES}
+use Rattle.command.specs.declared.refusal.Refusal.{Refusal}
+use Rattle.command.specs.declared.refusal.Refusal.TheVariants.{Deck, NoMemory, ReadFault, RowWide, TooLong, TooMany}
+use Rattle.command.proofs.CaseRuns.{IsOther, Told, eight_is_other, told, zero_is_other}
+use Rattle.tree_engine.specs.Answers.{HasNodes, IsBranch}
 use Rattle.tree_engine.specs.declared.answer.Branch.{Branch}
 use Rattle.tree_engine.specs.declared.answer.Branch.TheVariants.{Closed, Unbounded, Overflow, PivotsSpent, NodesSpent}
 use Rattle.tree_engine.specs.declared.answer.BranchOptions.{BranchOptions}
-use Rattle.branching.specs.Branching.{IsShown, IsTextOf, Says, SaysShown, SaysVerdict}
+use Rattle.branching.specs.Branching.{AreEnough, HasPivots, IsShown, IsTextOf, IsWholeStage, NoneIsWide, Says, SaysShown, SaysVerdict}
 use Rattle.branching.specs.Texts.{status_of, verdict_text}
 
 -- what the crates below promise of decks
 pub record Laws : Type 0 where
   pub decks_keep : (text : List ℕ) (d : decks.Deck) (p : ℕ) → Spells text d p → IsDeck d
   pub same_truth : (d : decks.Deck) (a : Instance) (v : Verdict) → IsDeck d → HasCase d a → IsTrueOf a v ↔ IsTrueOfDeck d v
+
+abbrev pub ReadOnce : Type 0
+ReadOnce = (limit : ℕ) (bytes : List ℕ) (x y : Result Instance Refusal) → IsReadAlone limit bytes x → IsReadAlone limit bytes y → x ≡ y
+
+-- ---- budgets
+
+has_pivots : (a : Instance) (o : BranchOptions) (b : Branch) → IsCase a → IsWholeStage a o → IsBranch a o b → HasPivots b
+has_pivots a o (Closed best tree nodes) kept whole h = tt
+has_pivots a o (Unbounded piece point ray nodes) kept whole h = tt
+has_pivots a o (Overflow piece at run) kept whole h = tt
+has_pivots a o (PivotsSpent piece at run) kept whole h = large_budget_is_not_spent a h.choices at.stage o.pivots kept whole h.ends.reached
+has_pivots a o (NodesSpent nodes left run) kept whole h = tt
+
+pub pivots_last : {E : Type 0} (a : Instance) (o : BranchOptions) (r : Result Branch E) → IsCase a → IsWholeStage a o → IfOk r (IsBranch a o) → IfOk r HasPivots
+pivots_last a o (Ok b) kept whole h = has_pivots a o b kept whole h
+pivots_last a o (Err e) kept whole h = h
+
+never_eight : (answer : Branch) → HasNodes answer → HasPivots answer → 8 ≡ status_of answer → ⊥
+never_eight (Closed best tree nodes) n p e = omega arith
+never_eight (Unbounded piece point ray nodes) n p e = omega arith
+never_eight (Overflow piece at run) n p e = omega arith
+never_eight (PivotsSpent piece at run) n p e = p
+never_eight (NodesSpent nodes left run) n p e = n
+
+never_seven : (a : Instance) (o : BranchOptions) (answer : Branch) → NoneIsWide a → IsBranch a o answer → 7 ≡ status_of answer → ⊥
+never_seven a o (Closed best tree nodes) none h e = omega arith
+never_seven a o (Unbounded piece point ray nodes) none h e = omega arith
+never_seven a o (Overflow piece at run) none h e = none piece h.choices at h.are h.ends
+never_seven a o (PivotsSpent piece at run) none h e = omega arith
+never_seven a o (NodesSpent nodes left run) none h e = omega arith
+
+seven_is_other : IsOther 7
+seven_is_other = (λ five. omega arith, not_refused)
+  where
+    not_refused : (r : Refusal) → 7 ≡ refusals.status_of r → ⊥
+    not_refused ReadFault e = omega arith
+    not_refused TooLong e = omega arith
+    not_refused (Deck line why) e = omega arith
+    not_refused (RowWide line) e = omega arith
+    not_refused (TooMany line) e = omega arith
+    not_refused NoMemory e = omega arith
+
+-- ---- verdicts
 
 -- the verdict that a text says, with its certificate
 record Shown (a : Instance) (brief : Bool) (text : List ℕ) : Type 0 where
@@ -76,3 +125,25 @@ pub says_verdict : Laws → (o : BranchOptions) (brief : Bool) (left : Option (L
 says_verdict l o brief left rb rn tb tn wb wn status bytes run is zero =
     let t : Told (Says o brief) bytes tb tn 0 = told (Says o brief) left rb rn tb tn wb wn 0 bytes (subst (λ (n : ℕ). IsRun (Says o brief) left rb rn tb tn wb wn n) zero run) is zero_is_other in
     verdict_said l bytes brief tb tn t.a t.text t.cause.1 (zero_is_shown t.a brief t.says.answer t.text t.says.text_is (sym (t.status_is ∙ t.says.status_is))) t.written
+
+-- ---- what is never said
+
+value_in : Instance → Result Instance Refusal → Instance
+value_in default (Ok a) = a
+value_in default (Err r) = default
+
+-- the case that the run speaks of is that of the deck
+same_case : ReadOnce → (o : BranchOptions) (brief : Bool) (tb tn : Option (List ℕ)) (status : ℕ) (bytes : List ℕ) (a : Instance) (t : Told (Says o brief) bytes tb tn status) → SpellsAlone bytes a → a ≡ t.a
+unfolding value_in
+same_case once o brief tb tn status bytes a t spelled = ap (value_in a) (once MOST_DECK_BYTES bytes (Ok a) (Ok t.a) (t.cause.0, spelled) t.cause)
+
+pub never_spent : ReadOnce → (o : BranchOptions) (brief : Bool) (left : Option (List ℕ)) (rb rn : ℕ) (tb tn : Option (List ℕ)) (wb wn status : ℕ) (bytes : List ℕ) (a : Instance) → IsRun (Says o brief) left rb rn tb tn wb wn status → left ≡ Some bytes → SpellsAlone bytes a → AreEnough a o → status ≡ 8 → ⊥
+never_spent once o brief left rb rn tb tn wb wn status bytes a run is spelled enough eight =
+    let t : Told (Says o brief) bytes tb tn 8 = told (Says o brief) left rb rn tb tn wb wn 8 bytes (subst (λ (n : ℕ). IsRun (Says o brief) left rb rn tb tn wb wn n) eight run) is eight_is_other in
+    let whole : AreEnough t.a o = subst (λ (x : Instance). AreEnough x o) (same_case once o brief tb tn 8 bytes a t spelled) enough in
+    never_eight t.says.answer (t.says.enough whole.0) (t.says.pivots whole.1) (t.status_is ∙ t.says.status_is)
+
+pub never_wide : ReadOnce → (o : BranchOptions) (brief : Bool) (left : Option (List ℕ)) (rb rn : ℕ) (tb tn : Option (List ℕ)) (wb wn status : ℕ) (bytes : List ℕ) (a : Instance) → IsRun (Says o brief) left rb rn tb tn wb wn status → left ≡ Some bytes → SpellsAlone bytes a → NoneIsWide a → status ≡ 7 → ⊥
+never_wide once o brief left rb rn tb tn wb wn status bytes a run is spelled narrow seven =
+    let t : Told (Says o brief) bytes tb tn 7 = told (Says o brief) left rb rn tb tn wb wn 7 bytes (subst (λ (n : ℕ). IsRun (Says o brief) left rb rn tb tn wb wn n) seven run) is seven_is_other in
+    never_seven t.a o t.says.answer (subst NoneIsWide (same_case once o brief tb tn 7 bytes a t spelled) narrow) t.says.is_answer (t.status_is ∙ t.says.status_is)

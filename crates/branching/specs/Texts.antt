@@ -1,15 +1,14 @@
 -- What is written of an answer of a search by branching, and the status that goes with it.
-use Rattle.std.specs.Prelude.{◌≡◌, ℕ, Bool, true, false, List, [], ◌∷◌, ◌++◌, codes, map}
+use Rattle.std.specs.Prelude.{ℕ, Bool, true, false, List, [], ◌∷◌, ◌++◌, codes, map}
 use Rattle.std.specs.Fmt.{decimal}
 use Rattle.std.specs.List.{join_with_byte}
 use Rattle.nogoods.specs.declared.choice.Choice.{Choice}
-use Rattle.lpcc_case.specs.Instance.{Instance}
 use Rattle.lpcc_case.specs.declared.verdict.Verdict.{Verdict}
 use Rattle.cert_text.specs.Spelling.{choice_word}
 use Rattle.cert_text.specs.declared.cert.Cert.{Cert}
 use Rattle.cert2_text.specs.Spelling2.{spelling2}
 use Rattle.migrating.specs.Migration.{migrated}
-use Rattle.report.specs.Endings.{overflow_text, pivots_text, verdict_line}
+use Rattle.report.specs.Endings.{verdict_line}
 use Rattle.tree_engine.specs.declared.answer.Branch.{Branch}
 use Rattle.tree_engine.specs.declared.answer.Branch.TheVariants.{Closed, Unbounded, Overflow, PivotsSpent, NodesSpent}
 

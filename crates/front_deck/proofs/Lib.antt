@@ -4,4 +4,5 @@ pub mod Parts
 pub mod Texts
 pub mod LcpPrinted
 pub mod BilevelPrinted
+pub mod Costs
 pub mod Meaning

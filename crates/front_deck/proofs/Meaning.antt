@@ -4,17 +4,20 @@ use Rattle.std.specs.Prelude.{◌↔◌}
 use Rattle.deck_case.proofs.Feasibility.{feasible_law}
 use Rattle.deck_case.specs.DeckCases.{HasCase, case_of_deck}
 use Rattle.decks.proofs.Relations.{one_deck}
+use Rattle.decks.specs.Bounds.{default_column}
 use Rattle.decks.specs.Texts.{Spells}
 use Rattle.decks.specs.declared.deck.Deck.{Deck}
 use Rattle.front_case.proofs.BilevelDeck as bilevel
 use Rattle.front_case.proofs.LcpDeck as lcp
 use Rattle.front_deck.specs.Meanings.{IsDeckOfBilevel, IsDeckOfLcp}
 use Rattle.front_deck.proofs.BilevelPrinted as printed_bilevel
+use Rattle.front_deck.proofs.Costs.{bilevel_value, lcp_value}
 use Rattle.front_deck.proofs.LcpPrinted as printed_lcp
 use Rattle.front_text.specs.Problems.{IsBilevel, IsLcp}
 use Rattle.front_text.specs.declared.problem.Bilevel.{Bilevel}
 use Rattle.front_text.specs.declared.problem.Lcp.{Lcp}
-use Rattle.kkt_front.proofs.BilevelMeaning.{met_has_multipliers, with_multipliers_is_met}
+use Rattle.kkt_front.proofs.BilevelMeaning.{met_has_multipliers, sized, with_multipliers_is_met}
+use Rattle.kkt_front.proofs.LeastFollower.{least_follower}
 use Rattle.kkt_front.proofs.LcpMeaning.{met_is_solution, solution_is_met}
 use Rattle.kkt_front.specs.DeckTexts.{bilevel_text, lcp_text}
 use Rattle.kkt_front.specs.Decks.{bilevel_deck, lcp_deck}
@@ -48,7 +51,7 @@ lcp_points p d place z h s = let same = lcp_is p d place h s in subst (MeansLcp 
 pub deck_of_lcp : (p : Lcp) → IsLcp p → IsDeckOfLcp (lcp_text p) p
 deck_of_lcp p h =
     let mine = printed_lcp.spelled p h in
-    record { deck = lcp_deck p mine.0; spelled = mine.1; has_case = lcp.has_case p mine.0 h; points = lcp_means p mine.0 h }
+    record { deck = lcp_deck p mine.0; spelled = mine.1; columns = sized (λ j. default_column) p.size; has_case = lcp.has_case p mine.0 h; points = lcp_means p mine.0 h; value = lcp_value p mine.0 h }
 
 -- ---- a bilevel problem
 
@@ -74,4 +77,13 @@ bilevel_points b d place p h s = let same = bilevel_is b d place h s in subst (M
 pub deck_of_bilevel : (b : Bilevel) → IsBilevel b → IsDeckOfBilevel (bilevel_text b) b
 deck_of_bilevel b h =
     let mine = printed_bilevel.spelled b h in
-    record { deck = bilevel_deck b mine.0 mine.1; spelled = mine.2; has_case = bilevel.has_case b mine.0 mine.1 h; points = bilevel_means b mine.0 mine.1 h }
+    let means = bilevel_means b mine.0 mine.1 h in
+    record {
+      deck = bilevel_deck b mine.0 mine.1;
+      spelled = mine.2;
+      columns = bilevel.columns_length b mine.0;
+      has_case = bilevel.has_case b mine.0 mine.1 h;
+      points = means;
+      value = bilevel_value b mine.0 mine.1 h;
+      least = λ p feasible. least_follower b p h ((means p).0 feasible);
+    }

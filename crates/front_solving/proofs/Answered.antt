@@ -1,8 +1,6 @@
 -- What status 0 says of a run.
 use Rattle.std.proofs.Common.{ℕ, ◌≡◌, ◌+◌, List, Option, Some}
 use Rattle.play.specs.declared.event.Options.{Options}
-use Rattle.front_text.specs.declared.problem.Bilevel.{Bilevel}
-use Rattle.front_text.specs.declared.problem.Lcp.{Lcp}
 use Rattle.front_text.specs.Texts.{FailsAsBilevel, FailsAsLcp, SpellsBilevel, SpellsLcp}
 use Rattle.fronting.specs.Runs.{IsBilevelRun, IsLcpRun}
 use Rattle.fronting.proofs.FrontRuns.{told}

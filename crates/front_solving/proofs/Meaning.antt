@@ -1,5 +1,5 @@
 -- What a verdict on the case of a problem says of the problem.
-use Rattle.std.proofs.Common.{ℕ, ◌<◌, ◌≤◌, ◌+◌, ◌≡◌, ◌∙◌, refl, sym, ap, subst, arith, List, [], ◌∷◌, ◌++◌, length, take, Option, Some, inl, inr, ℤ, pos, ◌+ℤ◌, ◌*ℤ◌, ◌<ℤ◌, ◌≤ℤ◌}
+use Rattle.std.proofs.Common.{ℕ, ◌≤◌, ◌+◌, ◌≡◌, ◌∙◌, refl, sym, ap, subst, arith, List, length, take, Option, Some, inl, inr, ℤ, pos, ◌+ℤ◌, ◌*ℤ◌, ◌<ℤ◌, ◌≤ℤ◌}
 use Rattle.std.specs.Prelude.{◌↔◌, ◌⊎◌}
 use Rattle.std.specs.Io.KnownBytes.{Appends}
 use Rattle.std.proofs.Math.IntN.{zero-*ℤ}
@@ -10,15 +10,13 @@ use Rattle.lp_nums.specs.Fractions.{Fraction, SameValue}
 use Rattle.sense.specs.Senses.{signed}
 use Rattle.lpcc_case.specs.Instance.{Instance}
 use Rattle.lpcc_case.specs.Points.{IsComplementary, IsFeasible, IsLower, Point, cost_at}
-use Rattle.lpcc_case.specs.Values.{IsValue}
 use Rattle.lpcc_case.specs.declared.verdict.Verdict.{Verdict}
 use Rattle.lpcc_case.specs.declared.verdict.Verdict.TheVariants as verdict
 use Rattle.cert_text.specs.declared.cert.Cert.{Cert}
 use Rattle.cert_text.specs.declared.cert.Cert.TheVariants.{Optimal, Infeasible, Unbounded}
 use Rattle.cert_text.specs.declared.cert.CertLine.{CertLine}
 use Rattle.cert_text.specs.declared.cert.CertPoint.{CertPoint}
-use Rattle.cert_check.specs.Acceptance.{Accepts, GivesMet, HasCost, NoGoodsFail, numbers_of}
-use Rattle.cert_check.specs.Barring.{claimed_by}
+use Rattle.cert_check.specs.Acceptance.{Accepts, GivesMet, NoGoodsFail, numbers_of}
 use Rattle.cert_check.specs.declared.accept.NoWhy.{NoWhy}
 use Rattle.cert_check.specs.declared.accept.NoWhy.TheVariants.{ValueFails}
 use Rattle.cert_check.proofs.Barred.{nothing_improves}
@@ -31,10 +29,12 @@ use Rattle.deck_case.specs.DeckCases.{case_of_deck}
 use Rattle.deck_case.specs.DeckPoints.{row_value}
 use Rattle.play.specs.declared.event.Options.{Options}
 use Rattle.engine.specs.Solved.{IsShown}
+use Rattle.front_deck.specs.Meanings.{spent}
+use Rattle.front_deck.proofs.Costs.{bilevel_cost, lcp_cost}
 use Rattle.front_text.specs.declared.problem.Bilevel.{Bilevel}
 use Rattle.front_text.specs.declared.problem.Lcp.{Lcp}
 use Rattle.front_text.specs.Problems.{IsBilevel, IsLcp}
-use Rattle.kkt_front.specs.Decks.{bilevel_deck, lcp_deck, listed}
+use Rattle.kkt_front.specs.Decks.{bilevel_deck, lcp_deck}
 use Rattle.kkt_front.specs.Solutions.{IsLeastFollower, IsSolution, IsWithMultipliers}
 use Rattle.kkt_front.proofs.BilevelMeaning.{sized}
 use Rattle.kkt_front.proofs.BilevelMeaning as bilevel_meaning
@@ -43,9 +43,9 @@ use Rattle.kkt_front.proofs.EntrySums.{IsSum}
 use Rattle.kkt_front.proofs.Rows.{row_sum}
 use Rattle.front_case.proofs.BilevelDeck as bilevel
 use Rattle.front_case.proofs.LcpDeck as lcp
-use Rattle.front_solving.specs.Solving.{IsBest, IsCost, SaysBest, SaysFalling, SaysNone, SaysNowhere, SaysSolution, WithNumbers, bilevel_case, lcp_case, spent}
+use Rattle.front_solving.specs.Solving.{IsBest, SaysBest, SaysFalling, SaysNone, SaysNowhere, SaysSolution, WithNumbers, bilevel_case, lcp_case}
 use Rattle.front_solving.specs.Texts.{IsBilevelText, IsLcpText, optimum_text, solution_text}
-use Rattle.front_solving.proofs.Costs.{bilevel_cost, cost_is, lcp_cost}
+use Rattle.front_solving.proofs.Costs.{cost_is}
 
 abbrev pub CostsAreObjectives : Type 0
 CostsAreObjectives = (d : Deck) (p : Point (length d.columns)) → IsDeck d → SameValue (row_value d d.objective p) (record { num = signed d.sense (cost_at (case_of_deck d) p); den = (case_of_deck d).scale *ℤ pos p.d })

@@ -1,5 +1,5 @@
 -- From an ending of the solver to what is written of it.
-use Rattle.std.proofs.Common.{ℕ, ◌≡◌, ◌∙◌, refl, sym, ap, subst, arith, true, List, [], ◌∷◌, Option, Some, inl, inr, ℤ, pos}
+use Rattle.std.proofs.Common.{ℕ, ◌≡◌, ◌∙◌, refl, sym, subst, arith, List, Option, inl, inr, ℤ}
 use Rattle.std.specs.Prelude.{◌⊎◌, Ok, Err}
 use Rattle.command.specs.Answers.{IsWritten}
 use Rattle.lp_nums.specs.Fractions.{Fraction}
@@ -8,7 +8,6 @@ use Rattle.lpcc_case.specs.Points.{IsComplementary, Point}
 use Rattle.lpcc_case.specs.Values.{IsValue}
 use Rattle.lpcc_case.specs.declared.verdict.Verdict.{Verdict}
 use Rattle.lpcc_case.specs.declared.verdict.Verdict.TheVariants as verdict
-use Rattle.cert_text.specs.Certs.{KeepsForm}
 use Rattle.cert_text.specs.declared.cert.Cert.{Cert}
 use Rattle.cert_text.specs.declared.cert.Cert.TheVariants.{Optimal, Infeasible, Unbounded}
 use Rattle.cert_text.specs.declared.cert.CertLine.{CertLine}
@@ -19,7 +18,7 @@ use Rattle.play.specs.declared.ending.Ending.{Ending}
 use Rattle.play.specs.declared.ending.Ending.TheVariants as ending
 use Rattle.play.specs.declared.event.Options.{Options}
 use Rattle.engine.specs.Solved.{IsShown, IsSolved, PiecesLast, PivotsLast, VerdictsAreShown}
-use Rattle.report.specs.Endings.{CanBeWritten, IsTextOf, status_of}
+use Rattle.report.specs.Endings.{CanBeWritten, status_of}
 use Rattle.fronting.specs.Refusals as refusals
 use Rattle.fronting.specs.Runs.{IsWrittenFor}
 use Rattle.fronting.specs.declared.refusal.FrontRefusal.TheVariants.{NoMemory}

@@ -1,7 +1,5 @@
 -- What solving a problem says, and what its answer means.
 use Rattle.std.specs.Prelude.{◌≡◌, ◌≤◌, ◌+◌, ◌^◌, ◌⊎◌, ◌*ℤ◌, ◌<ℤ◌, ◌≤ℤ◌, ℕ, ℤ, pos, List, [], ◌∷◌, ◌++◌, Option, length, take, unsigned_abs}
-use Rattle.std.specs.List.{range_with_len}
-use Rattle.lp_base.specs.Sums.{sum_over}
 use Rattle.std.specs.Io.KnownBytes.{Appends}
 use Rattle.lpcc_case.specs.Instance.{Instance}
 use Rattle.lpcc_case.specs.Points.{Point}
@@ -20,11 +18,11 @@ use Rattle.play.specs.declared.event.Options.{Options}
 use Rattle.desk_part.specs.DeskParts.{IsEndingOfRecord}
 use Rattle.engine.specs.Solved.{PiecesLast, PivotsLast, VerdictsAreShown}
 use Rattle.report.specs.Endings.{status_of, verdict_line}
+use Rattle.front_deck.specs.Meanings.{spent}
 use Rattle.front_text.specs.declared.problem.Bilevel.{Bilevel}
 use Rattle.front_text.specs.declared.problem.Lcp.{Lcp}
 use Rattle.front_text.specs.Texts.{SpellsBilevel, SpellsLcp}
 use Rattle.kkt_front.specs.Decks.{bilevel_deck, lcp_deck}
-use Rattle.kkt_front.specs.DeckTexts.{number_at}
 use Rattle.kkt_front.specs.Solutions.{IsLeastFollower, IsSolution, IsWithMultipliers}
 use Rattle.front_solving.specs.Texts.{IsBilevelText, IsEndingText, IsLcpText, no_solution_text, optimum_text, solution_text}
 
@@ -87,10 +85,6 @@ IsLcpAnswered bytes taken_before taken_now =
 
 abbrev pub WithNumbers : Bilevel → Type 0
 WithNumbers b = Point (b.nx + b.ny + length b.low)
-
--- what x and y cost, times d
-abbrev pub spent : {n : ℕ} → Bilevel → Point n → ℤ
-spent b q = sum_over (λ j. number_at b.cost j *ℤ number_at q.x j) (range_with_len 0 (b.nx + b.ny))
 
 -- the point has multipliers, y is least in `follow` for its x, and no point that has multipliers costs less
 pub record IsBest (b : Bilevel) (q : WithNumbers b) : Type 0 where

@@ -1,5 +1,5 @@
 -- A run over the text of a problem, from what was read and what was written.
-use Rattle.std.proofs.Common.{ℕ, ◌≡◌, ◌∙◌, refl, sym, ap, subst, arith, List, Option, Some, inl, inr}
+use Rattle.std.proofs.Common.{ℕ, ◌≡◌, ◌∙◌, refl, sym, subst, arith, List, Option, Some, inl, inr}
 use Rattle.std.specs.Prelude.{◌⊎◌, Result, Ok, Err}
 use Rattle.std.specs.Io.KnownBytes.{Appends}
 use Rattle.command.specs.Answers.{IsOnly, IsWritten}
@@ -7,7 +7,7 @@ use Rattle.command.specs.declared.reading.TheConstants.{MOST_DECK_BYTES}
 use Rattle.front_text.specs.declared.fault.FrontWhy.{FrontWhy}
 use Rattle.fronting.specs.Inputs.{IsRead}
 use Rattle.fronting.specs.Refusals.{status_of, text_of}
-use Rattle.fronting.specs.Runs.{IsFrontRun, IsPrinted, IsRightProblem, IsWrittenFor}
+use Rattle.fronting.specs.Runs.{IsFrontRun, IsDeckWritten, IsRightProblem, IsWrittenFor}
 use Rattle.fronting.specs.declared.refusal.FrontRefusal.{FrontRefusal}
 use Rattle.fronting.specs.declared.refusal.FrontRefusal.TheVariants.{ReadFault, TooLong, Problem, NoMemory}
 
@@ -82,7 +82,7 @@ told Spells Fails Says left rb rn tb tn wb wn status bytes run is zero = told_by
 
 -- ---- the deck is printed
 
-pub printed : {P : Type 0} (Spells : Spelling P) (Fails : Failing) (deck_text : P → List ℕ) (left : Option (List ℕ)) (rb rn : ℕ) (tb tn : Option (List ℕ)) (wb wn status : ℕ) (bytes : List ℕ) → IsFrontRun Spells Fails (λ p text meant. (text ≡ deck_text p) × (meant ≡ 0)) left rb rn tb tn wb wn status → left ≡ Some bytes → status ≡ 0 → IsPrinted Spells deck_text bytes tb tn
-printed Spells Fails deck_text left rb rn tb tn wb wn status bytes run is zero =
+pub printed : {P : Type 0} (Spells : Spelling P) (Fails : Failing) (deck_text : P → List ℕ) (IsDeckOf : List ℕ → P → Type 0) → ((text : List ℕ) (p : P) → Spells text p → IsDeckOf (deck_text p) p) → (left : Option (List ℕ)) (rb rn : ℕ) (tb tn : Option (List ℕ)) (wb wn status : ℕ) (bytes : List ℕ) → IsFrontRun Spells Fails (λ p text meant. (text ≡ deck_text p) × (meant ≡ 0)) left rb rn tb tn wb wn status → left ≡ Some bytes → status ≡ 0 → IsDeckWritten Spells deck_text IsDeckOf bytes tb tn
+printed Spells Fails deck_text IsDeckOf law left rb rn tb tn wb wn status bytes run is zero =
     let t = told Spells Fails (λ p text meant. (text ≡ deck_text p) × (meant ≡ 0)) left rb rn tb tn wb wn status bytes run is zero in
-    (t.p, t.spelled, subst (λ (x : List ℕ). Appends tb tn x) t.says.0 t.written)
+    record { p = t.p; spelled = t.spelled; written = subst (λ (x : List ℕ). Appends tb tn x) t.says.0 t.written; means = law bytes t.p t.spelled }

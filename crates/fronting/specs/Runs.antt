@@ -8,6 +8,7 @@ use Rattle.front_text.specs.Texts.{FailsAsBilevel, FailsAsLcp, SpellsBilevel, Sp
 use Rattle.command.specs.Answers.{IsAnswer, IsWritten}
 use Rattle.command.specs.declared.reading.TheConstants.{MOST_DECK_BYTES}
 use Rattle.kkt_front.specs.DeckTexts.{bilevel_text, lcp_text}
+use Rattle.front_deck.specs.Meanings.{IsDeckOfBilevel, IsDeckOfLcp}
 use Rattle.fronting.specs.Inputs.{IsRead}
 use Rattle.fronting.specs.Refusals.{status_of, text_of}
 use Rattle.fronting.specs.declared.refusal.FrontRefusal.{FrontRefusal}
@@ -48,6 +49,18 @@ IsLcpDeck p text status = (text ≡ lcp_text p) × (status ≡ 0)
 abbrev pub IsBilevelDeck : Bilevel → List ℕ → ℕ → Type 0
 IsBilevelDeck p text status = (text ≡ bilevel_text p) × (status ≡ 0)
 
--- what status 0 says: the bytes spell a problem, and its deck is what was written
-abbrev pub IsPrinted : {P : Type 0} → (List ℕ → P → Type 0) → (P → List ℕ) → List ℕ → Option (List ℕ) → Option (List ℕ) → Type 0
-IsPrinted {P} Spells deck_text bytes taken_before taken_now = (p : P) × Spells bytes p × Appends taken_before taken_now (deck_text p)
+-- ---- what status 0 says
+
+-- The bytes spell a problem, and the text that was written is that of its deck. `IsDeckOf` says what such a text means: which deck it spells when it
+-- is read, and which points are feasible for the deck's case.
+pub record IsDeckWritten {P : Type 0} (Spells : List ℕ → P → Type 0) (deck_text : P → List ℕ) (IsDeckOf : List ℕ → P → Type 0) (bytes : List ℕ) (taken_before taken_now : Option (List ℕ)) : Type 0 where
+  pub p : P
+  pub spelled : Spells bytes p
+  pub written : Appends taken_before taken_now (deck_text p)
+  pub means : IsDeckOf (deck_text p) p
+
+abbrev pub SaysLcpDeck : List ℕ → Option (List ℕ) → Option (List ℕ) → Type 0
+SaysLcpDeck bytes taken_before taken_now = IsDeckWritten SpellsLcp lcp_text IsDeckOfLcp bytes taken_before taken_now
+
+abbrev pub SaysBilevelDeck : List ℕ → Option (List ℕ) → Option (List ℕ) → Type 0
+SaysBilevelDeck bytes taken_before taken_now = IsDeckWritten SpellsBilevel bilevel_text IsDeckOfBilevel bytes taken_before taken_now

@@ -1,14 +1,13 @@
 //! The commands over a source and a sink.
 ghost use Rattle.std.specs.Prelude.{◌≡◌, ◌⊎◌, ℕ, List, Err, Ok, Some};
 ghost use Rattle.front_text.specs.Problems.{IsBilevel, IsLcp};
-ghost use Rattle.front_text.specs.Texts.{SpellsBilevel, SpellsLcp};
-ghost use Rattle.kkt_front.specs.DeckTexts.{bilevel_text, lcp_text};
-ghost use Rattle.fronting.specs.Runs.{IsBilevelDeck, IsBilevelRun, IsLcpDeck, IsLcpRun, IsPrinted, IsWrittenFor};
+ghost use Rattle.fronting.specs.Runs.{IsBilevelDeck, IsBilevelRun, IsLcpDeck, IsLcpRun, IsWrittenFor, SaysBilevelDeck, SaysLcpDeck};
 ghost use Rattle.fronting.specs.declared.refusal.FrontRefusal.TheVariants as refusal;
 
 use crate::reading::{read_bilevel_from, read_lcp_from};
 use crate::refusal::give_front_refusal;
 use command::{Status, give, give_no_memory};
+use front_deck::printed_decks_are_those_of_their_problems;
 use front_text::{Bilevel, Lcp};
 use kkt_front::{bilevel_deck, lcp_deck};
 use lp_io::{Sink, Source};
@@ -45,10 +44,12 @@ pub fn print_lcp<S: Source, K: Sink>(alloc: Global, src: &mut S, out: &mut K) ->
     ensures answered { IsLcpRun IsLcpDeck (S.left src.old) (S.faults src.old) (S.faults src.new)
         (K.taken out.old) (K.taken out.new) (K.faults out.old) (K.faults out.new) result }
 
-    // With status 0 the deck was written.
+    // With status 0 the deck was written. Read as a deck, its text has a case whose feasible points are
+    // the solutions of the problem.
     ensures printed { result ≡ 0 → (bytes : List ℕ) → S.left src.old ≡ Some bytes →
-        IsPrinted SpellsLcp lcp_text bytes (K.taken out.old) (K.taken out.new) }
+        SaysLcpDeck bytes (K.taken out.old) (K.taken out.new) }
 {
+    printed_decks_are_those_of_their_problems();
     match read_lcp_from(alloc, src) {
         Ok(lcp) => give_lcp_deck(alloc, &lcp, out),
         Err(refusal) => give_front_refusal(alloc, refusal, out),
@@ -62,10 +63,13 @@ pub fn print_bilevel<S: Source, K: Sink>(alloc: Global, src: &mut S, out: &mut K
     ensures answered { IsBilevelRun IsBilevelDeck (S.left src.old) (S.faults src.old) (S.faults src.new)
         (K.taken out.old) (K.taken out.new) (K.faults out.old) (K.faults out.new) result }
 
-    // With status 0 the deck was written.
+    // With status 0 the deck was written. Read as a deck, its text has a case whose feasible points are
+    // those that meet all lines, with multipliers of y behind the variables; then y is least in
+    // `follow` for its x.
     ensures printed { result ≡ 0 → (bytes : List ℕ) → S.left src.old ≡ Some bytes →
-        IsPrinted SpellsBilevel bilevel_text bytes (K.taken out.old) (K.taken out.new) }
+        SaysBilevelDeck bytes (K.taken out.old) (K.taken out.new) }
 {
+    printed_decks_are_those_of_their_problems();
     match read_bilevel_from(alloc, src) {
         Ok(bilevel) => give_bilevel_deck(alloc, &bilevel, out),
         Err(refusal) => give_front_refusal(alloc, refusal, out),

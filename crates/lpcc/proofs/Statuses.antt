@@ -2,6 +2,8 @@
 use Rattle.std.proofs.Common.{ℕ, ◌≡◌, ◌∙◌, refl, sym, ap, subst, arith, true, false, Bool, List, Option, None, Some, inl, inr}
 use Rattle.std.specs.Prelude.{◌⊎◌, ◌≢◌, Ok, Err, Result}
 use Rattle.lpcc_case.specs.Instance.{Instance}
+use Rattle.branching.specs.Branching as branching
+use Rattle.branching.specs.Texts as branching_texts
 use Rattle.command.specs.Answers.{IsWritten}
 use Rattle.command.specs.Refusals as refusals
 use Rattle.command.specs.Inputs.{SpellsAlone}
@@ -34,14 +36,18 @@ use Rattle.report.specs.declared.style.Style.TheVariants.{Brief}
 use Rattle.report.specs.declared.relaxation.Relaxation.{Relaxation}
 use Rattle.report.specs.declared.relaxation.Relaxation.TheVariants as relaxation
 use Rattle.solving.specs.Solving as solving
+use Rattle.tree_engine.specs.declared.answer.Branch.{Branch}
+use Rattle.tree_engine.specs.declared.answer.Branch.TheVariants as branch
+use Rattle.tree_engine.specs.declared.answer.BranchOptions.{BranchOptions}
 use Rattle.verifier.specs.Runs.{IsChecked}
 use Rattle.words.specs.declared.command.Command.{Command}
-use Rattle.words.specs.declared.command.Command.TheVariants.{Bilevel, Check, Generate, Lcp, Migrate, Relax, Solve}
+use Rattle.words.specs.declared.command.Command.TheVariants.{Bilevel, Check, Generate, Lcp, Migrate, Relax, Solve, Tree}
 use Rattle.words.specs.declared.command.Draft.{Draft}
 use Rattle.words.specs.declared.command.Settings.{Settings}
+use Rattle.words.specs.declared.command.TreeSettings.{TreeSettings}
 use Rattle.verifier.specs.declared.answer.Answer.TheVariants.{Refused}
 use Rattle.lpcc.specs.Answers.{Answers, words_refused}
-use Rattle.lpcc.specs.Commands.{IsCommand, IsNoCommand, Runs, sizes_of, style_of, usual}
+use Rattle.lpcc.specs.Commands.{IsCommand, IsNoCommand, IsNoSolve, Runs, as_asked, by_one_worker, limits_of, sizes_of, style_of, usual}
 
 -- ---- one command
 
@@ -95,6 +101,16 @@ ending_not_two ending.NoMemory e = omega arith
 solve_not_two : (o : Options) (style : Style) (left : Option (List ℕ)) (rb rn : ℕ) (tb tn : Option (List ℕ)) (wb wn : ℕ) → IsRun (solving.Says o style) left rb rn tb tn wb wn 2 → ⊥
 solve_not_two o style left rb rn tb tn wb wn run = run_not_two (solving.Says o style) left rb rn tb tn wb wn (λ a text meant says e. ending_not_two says.end (e ∙ says.status_is)) run
 
+branch_not_two : (answer : Branch) → 2 ≡ branching_texts.status_of answer → ⊥
+branch_not_two (branch.Closed best tree nodes) e = omega arith
+branch_not_two (branch.Unbounded piece point ray nodes) e = omega arith
+branch_not_two (branch.Overflow piece place run) e = omega arith
+branch_not_two (branch.PivotsSpent piece place run) e = omega arith
+branch_not_two (branch.NodesSpent nodes left run) e = omega arith
+
+tree_not_two : (s : TreeSettings) (left : Option (List ℕ)) (rb rn : ℕ) (tb tn : Option (List ℕ)) (wb wn : ℕ) → IsRun (branching.Says (limits_of s) s.brief) left rb rn tb tn wb wn 2 → ⊥
+tree_not_two s left rb rn tb tn wb wn run = run_not_two (branching.Says (limits_of s) s.brief) left rb rn tb tn wb wn (λ a text meant says e. branch_not_two says.answer (e ∙ says.status_is)) run
+
 memory_not_two : (tb tn : Option (List ℕ)) (wb wn : ℕ) → IsOutOfMemory tb tn wb wn 2 → ⊥
 memory_not_two tb tn wb wn w = written_not_two tb tn wb wn (refusals.text_of NoMemory) 6 (λ e. omega arith) w
 
@@ -147,6 +163,7 @@ not_two o law Migrate left rb rn tb tn wb wn run =
     written_not_two tb tn wb wn (converted.text_of run.0.read) (converted.status_of run.0.read) (conversion_not_two run.0.read) run.0.written
 not_two o law (Relax q) left rb rn tb tn wb wn run = run_not_two (relaxing.Says q) left rb rn tb tn wb wn (λ a text meant says e. relaxation_not_two says.end (e ∙ says.status_is)) run.0
 not_two o law (Solve s) left rb rn tb tn wb wn run = solve_not_two (o s) (style_of s) left rb rn tb tn wb wn run.0
+not_two o law (Tree s) left rb rn tb tn wb wn run = tree_not_two s left rb rn tb tn wb wn run.0
 not_two o law (Generate d) left rb rn tb tn wb wn run = made_not_two o d left rb rn tb tn wb wn d.solve refl run
 not_two o law (Lcp solve) left rb rn tb tn wb wn run = lcp_not_two left rb rn tb tn wb wn solve solve refl o run
 not_two o law (Bilevel solve) left rb rn tb tn wb wn run = bilevel_not_two left rb rn tb tn wb wn solve solve refl o run
@@ -165,6 +182,25 @@ of_solve how s o style left rb rn tb tn wb wn status e same answered verdict eno
   λ zero bytes told. subst (λ (y : Style). solving.SaysVerdict bytes (how s) y tb tn) same (subst (λ (x : Options). solving.SaysVerdict bytes x style tb tn) e (verdict zero bytes told)),
   λ bytes told a spelled many. enough bytes told a spelled (subst (λ (x : Options). solving.AreEnough a x) (sym e) many),
 )
+
+pub of_tree : (how : Settings → Options) (s : TreeSettings) (o : BranchOptions) (left : Option (List ℕ)) (rb rn : ℕ) (tb tn : Option (List ℕ)) (wb wn status : ℕ) → o ≡ limits_of s → IsRun (branching.Says o s.brief) left rb rn tb tn wb wn status → (status ≡ 0 → (bytes : List ℕ) → left ≡ Some bytes → branching.SaysVerdict bytes s.brief tb tn) → ((bytes : List ℕ) → left ≡ Some bytes → (a : Instance) → SpellsAlone bytes a → branching.AreEnough a o → status ≡ 8 → ⊥) → ((bytes : List ℕ) → left ≡ Some bytes → (a : Instance) → SpellsAlone bytes a → branching.NoneIsWide a → status ≡ 7 → ⊥) → Runs how (Tree s) left rb rn tb tn wb wn status
+of_tree how s o left rb rn tb tn wb wn status e answered verdict enough narrow = (
+  subst (λ (x : BranchOptions). IsRun (branching.Says x s.brief) left rb rn tb tn wb wn status) e answered,
+  verdict,
+  λ bytes told a spelled many. enough bytes told a spelled (subst (λ (x : BranchOptions). branching.AreEnough a x) (sym e) many),
+  narrow,
+)
+
+-- the workers matter to a solve alone
+pub of_alone : (c : Command) (left : Option (List ℕ)) (rb rn : ℕ) (tb tn : Option (List ℕ)) (wb wn status : ℕ) → IsNoSolve c → Runs by_one_worker c left rb rn tb tn wb wn status → Runs as_asked c left rb rn tb tn wb wn status
+of_alone Check left rb rn tb tn wb wn status other run = run
+of_alone Migrate left rb rn tb tn wb wn status other run = run
+of_alone (Relax q) left rb rn tb tn wb wn status other run = run
+of_alone (Solve s) left rb rn tb tn wb wn status other run = absurd (other s refl)
+of_alone (Tree s) left rb rn tb tn wb wn status other run = run
+of_alone (Generate d) left rb rn tb tn wb wn status other run = run
+of_alone (Lcp solve) left rb rn tb tn wb wn status other run = run
+of_alone (Bilevel solve) left rb rn tb tn wb wn status other run = run
 
 pub of_usual : (how : Settings → Options) (d : Draft) (o : Options) (left : Option (List ℕ)) (rb rn : ℕ) (tb tn : Option (List ℕ)) (wb wn status : ℕ) → d.solve ≡ true → o ≡ usual → IsGeneratedAndSolved o (sizes_of d) tb tn wb wn status → Runs how (Generate d) left rb rn tb tn wb wn status
 of_usual how d o left rb rn tb tn wb wn status on e made = (
@@ -224,6 +260,9 @@ of_memory how (Relax q) left count tb tn wb wn status short =
 of_memory how (Solve s) left count tb tn wb wn status short =
     let five_six = five_or_six tb tn wb wn status short in
     (short_run (solving.Says (how s) (style_of s)) left count tb tn wb wn status short, λ zero. absurd (is_other 0 status (λ e. omega arith) (λ e. omega arith) five_six zero), λ bytes told a spelled many eight. is_other 8 status (λ e. omega arith) (λ e. omega arith) five_six eight)
+of_memory how (Tree s) left count tb tn wb wn status short =
+    let five_six = five_or_six tb tn wb wn status short in
+    (short_run (branching.Says (limits_of s) s.brief) left count tb tn wb wn status short, λ zero. absurd (is_other 0 status (λ e. omega arith) (λ e. omega arith) five_six zero), λ bytes told a spelled many eight. is_other 8 status (λ e. omega arith) (λ e. omega arith) five_six eight, λ bytes told a spelled none seven. is_other 7 status (λ e. omega arith) (λ e. omega arith) five_six seven)
 of_memory how (Generate d) left count tb tn wb wn status short = (λ off. inr short, λ on. inr short)
 of_memory how (Lcp solve) left count tb tn wb wn status short =
     let five_six = five_or_six tb tn wb wn status short in

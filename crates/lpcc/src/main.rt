@@ -1,7 +1,10 @@
 //! `lpcc`, an exact global solver for linear programs with complementarity constraints.
 #![tactic(auto)]
 
+mod commands;
+mod dispatch;
 mod run;
+mod settings;
 #[cfg(test)]
 mod tests;
 

@@ -1,8 +1,11 @@
 //! What no clause says: printed answers on decks of known answer, and that calls succeed.
-use crate::run::run_alone;
+use crate::run::{run, run_alone};
 use lp_io::{MemSink, MemSource};
 use std::alloc::Global;
+use std::sync::Wait;
 use std::test::Fail;
+use std::thread::Threads;
+use worker::NoGate;
 
 /// Two columns of at most 3 and 2 with the costs -1 and -2, and a pair of both.
 const BOUNDED: &str =
@@ -41,20 +44,55 @@ const BILEVEL: &str =
 /// One equation without columns, 0 = 1.
 const NOTHING: &str = "ROWS\n N cost\n E r1\nCOLUMNS\nRHS\n rhs r1 1\nENDATA\n";
 
-/// The status and what the sink took, for words and an input that comes whole.
-fn answer(alloc: Global, words: &str, input: &str) -> Result<(u8, String), Fail> {
-    let bytes = input.as_bytes().to_vec(alloc)?;
-    let mut source = MemSource::over(bytes, 4096, Vec::new(alloc));
-    let mut sink = MemSink::create(alloc, 10_000, 4096, Vec::new(alloc))?;
-    let mut list = Vec::new(alloc);
-    for word in words.split_whitespace() {
-        list.push(String::from_str(alloc, word)?)?;
+/// The deck of `THIRD` with a certificate of its least cost behind it.
+const CERTIFIED: &str =
+    "ROWS\n N cost\n G r1\nCOLUMNS\n x cost 1 r1 3\nRHS\n rhs r1 1\nENDATA\nlpcc-certificate 1\noptimal\npoint 3 : 1 1\nvalue 1\np : 3 : 1 1\nend 1\n";
+
+/// The words of a line.
+fn words_of(alloc: Global, line: &str) -> Result<Vec<String>, Fail> {
+    let mut words = Vec::new(alloc);
+    for word in line.split_whitespace() {
+        words.push(String::from_str(alloc, word)?)?;
     }
-    let status = run_alone(alloc, &list, &mut source, &mut sink);
-    let text = String::from_utf8(sink.bytes)
-        .ok()
-        .ok_or("the text is ASCII")?;
-    Ok((status, text))
+    Ok(words)
+}
+
+/// A source over an input that comes whole, and a sink that takes a whole text.
+fn ends(alloc: Global, input: &str) -> Result<(MemSource, MemSink), Fail> {
+    let bytes = input.as_bytes().to_vec(alloc)?;
+    let source = MemSource::over(bytes, 4096, Vec::new(alloc));
+    let sink = MemSink::create(alloc, 10_000, 4096, Vec::new(alloc))?;
+    Ok((source, sink))
+}
+
+/// What the sink took.
+fn text_in(sink: MemSink) -> Result<String, Fail> {
+    Ok(
+        String::from_utf8(sink.bytes)
+            .ok()
+            .ok_or("the text is ASCII")?,
+    )
+}
+
+/// The status and what is written for words and an input, by one worker.
+fn answer(alloc: Global, line: &str, input: &str) -> Result<(u8, String), Fail> {
+    let words = words_of(alloc, line)?;
+    let (mut source, mut sink) = ends(alloc, input)?;
+    let status = run_alone(alloc, &words, &mut source, &mut sink);
+    Ok((status, text_in(sink)?))
+}
+
+/// The status and what is written for words and an input, by as many workers as the words name.
+fn answer_as_asked<R: Threads + Wait + Sync>(
+    rt: &R,
+    alloc: Global,
+    line: &str,
+    input: &str,
+) -> Result<(u8, String), Fail> {
+    let words = words_of(alloc, line)?;
+    let (mut source, mut sink) = ends(alloc, input)?;
+    let status = run(rt, alloc, &words, &NoGate, &mut source, &mut sink);
+    Ok((status, text_in(sink)?))
 }
 
 #[test]
@@ -74,6 +112,21 @@ fn words(rt: HostRuntime) -> Result<(), Fail> {
         "relax --pivots 0",
         "relax --pivots 9223372036854775808",
         "relax --pivots +5",
+        "solve --nodes 1",
+        "relax --nodes 1",
+        "check --nodes 1",
+        "migrate --nodes 1",
+        "lcp --nodes 1",
+        "gen 7 2 1 1 --nodes 1",
+        "tree --nodes 0",
+        "tree --nodes 9223372036854775808",
+        "tree --pivots 0",
+        "tree --pieces 1",
+        "tree --form 2",
+        "tree --shrink none",
+        "tree --solve",
+        "tree -j 1",
+        "tree 1",
         "gen 7 2 1 2",
         "gen 7 2 1",
         "gen 7 2 --solve 1 1",
@@ -146,6 +199,41 @@ fn answers(rt: HostRuntime) -> Result<(), Fail> {
             0,
             "* infeasible\n* drawn 1\nlpcc-certificate 2\ninfeasible\ni : 1 1\nend 1\n",
         ),
+        (
+            "tree",
+            BOUNDED,
+            0,
+            "* optimal -4\n* nodes 3\nlpcc-certificate 2\noptimal\npoint 1 : 2 2\nvalue -4\np 1a : 1 : 1 -1 4 2\np 1b : 1 : 2 1 3 -2\nd : 1 2\nx 1 2\nend 3\n",
+        ),
+        ("tree --nodes 2", BOUNDED, 8, "budget nodes 2 left 1b\n"),
+        (
+            "tree --pivots 1 --nodes 1",
+            BOUNDED,
+            8,
+            "budget nodes 1 left 1a\n",
+        ),
+        (
+            "tree --brief --nodes 3",
+            BOUNDED,
+            0,
+            "* optimal -4\n* nodes 3\n",
+        ),
+        (
+            "tree",
+            THIRD,
+            0,
+            "* optimal 1/3\n* nodes 1\nlpcc-certificate 2\noptimal\npoint 3 : 1 1\nvalue 1\np : 3 : 1 1\nend 1\n",
+        ),
+        ("tree --brief", FALLING, 0, "* unbounded\n* nodes 3\n"),
+        (
+            "tree",
+            NOTHING,
+            0,
+            "* infeasible\n* nodes 1\nlpcc-certificate 2\ninfeasible\ni : 1 1\nend 1\n",
+        ),
+        ("tree", WIDE, 7, "overflow piece - pivots 0 forms x2 c1\n"),
+        ("tree --brief", ZERO, 0, "* optimal 0\n* nodes 3\n"),
+        ("tree", "", 3, "deck: line 1: NotClosed\n"),
         ("solve", WIDE, 7, "overflow piece - pivots 0 forms x2 c1\n"),
         ("solve --brief", ZERO, 0, "* optimal 0\n* drawn 2\n"),
         ("solve --brief", SHARED, 0, "* optimal 0\n* drawn 3\n"),
@@ -174,6 +262,39 @@ fn answers(rt: HostRuntime) -> Result<(), Fail> {
     for (words, input, status, text) in rows {
         let found = answer(rt.alloc(), words, input)?;
         assert_eq!(rt; (found.0, found.1.as_str()), (status, text), "{words}");
+    }
+    Ok(())
+}
+
+/// Each command gives what it is asked for, where `run` is called as the program calls it.
+#[test]
+fn each_command(rt: HostRuntime) -> Result<(), Fail> {
+    let rows = [
+        ("check", CERTIFIED, "yes optimal 1/3\n"),
+        (
+            "migrate",
+            "lpcc-certificate 1\ninfeasible\ni : 1 1\nend 1\n",
+            "lpcc-certificate 2\ninfeasible\ni : 1 1\nend 1\n",
+        ),
+        ("relax", BOUNDED, "relaxation optimal -7\n"),
+        ("solve --brief", BOUNDED, "* optimal -4\n* drawn 2\n"),
+        ("solve --brief -j 2", THIRD, "* optimal 1/3\n* drawn 1\n"),
+        (
+            "gen 7 2 1 1",
+            "",
+            "NAME gen-7-2-1-1\nROWS\n N cost\n G r1\nCOLUMNS\n x1 cost 6\n x1 r1 9\n x2 cost 6\n x2 r1 5\nRHS\n rhs r1 12\nPAIRS\n p1 COL x1 COL x2\nENDATA\n",
+        ),
+        ("tree --brief", THIRD, "* optimal 1/3\n* nodes 1\n"),
+        ("lcp --solve", LCP, "* solution 1 : 1 2\n"),
+        (
+            "bilevel",
+            BILEVEL,
+            "NAME bilevel\nROWS\n N cost\n G u1\n G u2\n G l1\n G l2\n E s1\nCOLUMNS\n v1 cost 1\n v1 u1 1\n v1 u2 -1\n v1 l1 -1\n v1 l2 1\n v2 cost -1\n v2 l1 1\n v2 l2 1\n m1 cost 0\n m1 s1 1\n m2 cost 0\n m2 s1 1\nRHS\n rhs u2 -5\n rhs l2 2\n rhs s1 1\nBOUNDS\n FR bnd v1\n FR bnd v2\nPAIRS\n p1 ROW l1 COL m1\n p2 ROW l2 COL m2\nENDATA\n",
+        ),
+    ];
+    for (words, input, text) in rows {
+        let found = answer_as_asked(&rt, rt.alloc(), words, input)?;
+        assert_eq!(rt; (found.0, found.1.as_str()), (0, text), "{words}");
     }
     Ok(())
 }

@@ -32,7 +32,7 @@ unfoldable pub options : App
 options = with_rule (with_rule (with_rule (with_rule bare name_rule) numbers_rule) workers_rule) (option_rule (codes "pieces"))
 
 unfoldable pub tuned : App
-tuned = with_rule (with_rule options (option_rule (codes "pivots"))) (option_rule (codes "shrink"))
+tuned = with_rule (with_rule (with_rule options (option_rule (codes "pivots"))) (option_rule (codes "nodes"))) (option_rule (codes "shrink"))
 
 unfoldable pub lpcc_command : App
 lpcc_command = with_rule (with_rule (with_rule tuned (option_rule (codes "form"))) (flag_rule (codes "brief"))) (flag_rule (codes "solve"))

@@ -5,12 +5,13 @@ use Rattle.clap.specs.Words.{Kinds, Row, Text, all_of, fault_of, first_of, match
 use Rattle.clap.specs.declared.parser.ValueSource.{ValueSource}
 use Rattle.clap.specs.declared.parser.ValueSource.TheVariants.{CommandLine, DefaultValue}
 use Rattle.words.specs.declared.command.Command.{Command}
-use Rattle.words.specs.declared.command.Command.TheVariants.{Bilevel, Check, Generate, Lcp, Migrate, Relax, Solve}
+use Rattle.words.specs.declared.command.Command.TheVariants.{Bilevel, Check, Generate, Lcp, Migrate, Relax, Solve, Tree}
 use Rattle.words.specs.declared.command.Draft.{Draft}
 use Rattle.words.specs.declared.command.Form.{Form}
 use Rattle.words.specs.declared.command.Form.TheVariants.{One, Two}
 use Rattle.words.specs.declared.command.Settings.{Settings}
-use Rattle.words.specs.declared.command.TheConstants.{MOST_WORKERS, USUAL_PIECES, USUAL_PIVOTS}
+use Rattle.words.specs.declared.command.TreeSettings.{TreeSettings}
+use Rattle.words.specs.declared.command.TheConstants.{MOST_WORKERS, USUAL_NODES, USUAL_PIECES, USUAL_PIVOTS}
 use Rattle.words.specs.declared.numbers.TheConstants.{MOST}
 use Rattle.words.specs.Command.{lpcc_command}
 use Rattle.words.specs.Numbers.{number_in}
@@ -50,7 +51,7 @@ form_of (Some w) = if bytes_eq w (codes "1") then Some One else if bytes_eq w (c
 -- ---- which arguments stand that a command does not take
 
 abbrev pub is_beyond_solve : List Row → Bool
-is_beyond_solve rows = stands (codes "numbers") rows || stands (codes "solve") rows
+is_beyond_solve rows = stands (codes "numbers") rows || stands (codes "solve") rows || stands (codes "nodes") rows
 
 abbrev pub is_beyond_relax : List Row → Bool
 is_beyond_relax rows = is_beyond_solve rows || stands (codes "workers") rows || stands (codes "pieces") rows || stands (codes "shrink") rows || stands (codes "form") rows || stands (codes "brief") rows
@@ -58,8 +59,11 @@ is_beyond_relax rows = is_beyond_solve rows || stands (codes "workers") rows || 
 abbrev pub is_beyond_check : List Row → Bool
 is_beyond_check rows = is_beyond_relax rows || stands (codes "pivots") rows
 
+abbrev pub is_beyond_tree : List Row → Bool
+is_beyond_tree rows = stands (codes "numbers") rows || stands (codes "solve") rows || stands (codes "workers") rows || stands (codes "pieces") rows || stands (codes "shrink") rows || stands (codes "form") rows
+
 abbrev pub is_beyond_gen : List Row → Bool
-is_beyond_gen rows = stands (codes "workers") rows || stands (codes "pieces") rows || stands (codes "pivots") rows || stands (codes "shrink") rows || stands (codes "form") rows || stands (codes "brief") rows
+is_beyond_gen rows = stands (codes "workers") rows || stands (codes "pieces") rows || stands (codes "pivots") rows || stands (codes "nodes") rows || stands (codes "shrink") rows || stands (codes "form") rows || stands (codes "brief") rows
 
 abbrev pub is_beyond_front : List Row → Bool
 is_beyond_front rows = stands (codes "numbers") rows || is_beyond_gen rows
@@ -68,6 +72,9 @@ is_beyond_front rows = stands (codes "numbers") rows || is_beyond_gen rows
 
 abbrev pub settings : ℕ → ℕ → ℕ → Bool → Bool → Form → Settings
 settings workers pieces pivots full brief form = record { workers = workers; pieces = pieces; pivots = pivots; full = full; brief = brief; form = form }
+
+abbrev pub tree_settings : ℕ → ℕ → Bool → TreeSettings
+tree_settings nodes pivots brief = record { nodes = nodes; pivots = pivots; brief = brief }
 
 abbrev pub draft : Bool → ℕ → ℕ → ℕ → ℕ → Draft
 draft solve seed columns rows pairs = record { seed = seed; columns = columns; rows = rows; pairs = pairs; solve = solve }
@@ -96,6 +103,16 @@ settings_of rows =
 
 abbrev pub solve_of : List Row → Option Command
 solve_of rows = if is_beyond_solve rows then None else option_map Solve (settings_of rows)
+
+abbrev pub tree_settings_of : List Row → Option TreeSettings
+tree_settings_of rows =
+    option_and_then (λ nodes.
+    option_map (λ pivots. tree_settings nodes pivots (stands (codes "brief") rows))
+    (number_or USUAL_PIVOTS MOST (first_of (codes "pivots") rows)))
+    (number_or USUAL_NODES MOST (first_of (codes "nodes") rows))
+
+abbrev pub tree_of : List Row → Option Command
+tree_of rows = if is_beyond_tree rows then None else option_map Tree (tree_settings_of rows)
 
 abbrev pub draft_of : Bool → List Text → Option Draft
 draft_of solve (s ∷ c ∷ r ∷ p ∷ []) =
@@ -129,6 +146,7 @@ command_named w rows =
     else if bytes_eq w (codes "relax") then relax_of rows
     else if bytes_eq w (codes "gen") then gen_of rows
     else if bytes_eq w (codes "solve") then solve_of rows
+    else if bytes_eq w (codes "tree") then tree_of rows
     else if bytes_eq w (codes "lcp") then lcp_of rows
     else if bytes_eq w (codes "bilevel") then bilevel_of rows
     else None

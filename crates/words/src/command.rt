@@ -1,7 +1,7 @@
 //! The commands.
 ghost use Rattle.std.specs.Prelude.{◌≡◌, ◌≤◌, map, option_map};
 ghost use Rattle.clap.specs.Words.{first_of, found_of, rows_of};
-ghost use Rattle.words.specs.Commands.{bilevel_of, check_of, command_in, command_named, draft_of, form_of, gen_of, is_beyond_check, is_beyond_front, is_beyond_gen, is_beyond_relax, is_beyond_solve, is_full, is_of_words, lcp_of, migrate_of, number_or, numbers_of, relax_of, settings_of, solve_of, source_of, stands};
+ghost use Rattle.words.specs.Commands.{bilevel_of, check_of, command_in, command_named, draft_of, form_of, gen_of, is_beyond_check, is_beyond_front, is_beyond_gen, is_beyond_relax, is_beyond_solve, is_beyond_tree, is_full, is_of_words, lcp_of, migrate_of, number_or, numbers_of, relax_of, settings_of, solve_of, source_of, stands, tree_of, tree_settings_of};
 
 use crate::numbers::{MOST, number_in};
 use clap::ArgMatches;
@@ -12,6 +12,9 @@ pub const MOST_WORKERS: u64 = 64;
 
 /// How many pieces may be drawn, where no number is given.
 pub const USUAL_PIECES: u64 = 50_000;
+
+/// How many nodes may be solved, where no number is given.
+pub const USUAL_NODES: u64 = 50_000;
 
 /// How many pivots a stage may make, where no number is given.
 pub const USUAL_PIVOTS: u64 = 1_000_000;
@@ -40,6 +43,17 @@ pub struct Settings {
     pub form: Form,
 }
 
+/// What is asked of `tree`.
+#[derive(Clone, Copy)]
+pub struct TreeSettings {
+    /// How many nodes may be solved.
+    pub nodes: u64,
+    /// How many pivots a stage of a walk may make.
+    pub pivots: u64,
+    /// Whether the certificate is left out.
+    pub brief: bool,
+}
+
 /// What is asked of `gen`: the numbers of the deck, and whether it is to be solved. Whether there is
 /// such a deck is not decided here.
 #[derive(Clone, Copy)]
@@ -62,6 +76,8 @@ pub enum Command {
     Relax(u64),
     /// Solve a deck.
     Solve(Settings),
+    /// Solve a deck by a search by branching.
+    Tree(TreeSettings),
     /// Make a deck.
     Generate(Draft),
     /// Print the deck of a linear complementarity problem, or solve it.
@@ -142,7 +158,7 @@ fn form_of(text: Option<&str>) -> Option<Form>
 fn is_beyond_solve(matches: &ArgMatches) -> bool
     ensures { result ≡ is_beyond_solve (rows_of (found_of matches.now)) }
 {
-    stands(matches, "numbers") || stands(matches, "solve")
+    stands(matches, "numbers") || stands(matches, "solve") || stands(matches, "nodes")
 }
 
 fn is_beyond_relax(matches: &ArgMatches) -> bool
@@ -162,12 +178,24 @@ fn is_beyond_check(matches: &ArgMatches) -> bool
     is_beyond_relax(matches) || stands(matches, "pivots")
 }
 
+fn is_beyond_tree(matches: &ArgMatches) -> bool
+    ensures { result ≡ is_beyond_tree (rows_of (found_of matches.now)) }
+{
+    stands(matches, "numbers")
+        || stands(matches, "solve")
+        || stands(matches, "workers")
+        || stands(matches, "pieces")
+        || stands(matches, "shrink")
+        || stands(matches, "form")
+}
+
 fn is_beyond_gen(matches: &ArgMatches) -> bool
     ensures { result ≡ is_beyond_gen (rows_of (found_of matches.now)) }
 {
     stands(matches, "workers")
         || stands(matches, "pieces")
         || stands(matches, "pivots")
+        || stands(matches, "nodes")
         || stands(matches, "shrink")
         || stands(matches, "form")
         || stands(matches, "brief")
@@ -234,6 +262,27 @@ fn solve_of(matches: &ArgMatches) -> Option<Command>
         return None;
     }
     Some(Command::Solve(settings_of(matches)?))
+}
+
+fn tree_settings_of(matches: &ArgMatches) -> Option<TreeSettings>
+    ensures { result ≡ tree_settings_of (rows_of (found_of matches.now)) }
+{
+    let nodes = number_or(USUAL_NODES, MOST, text_of(matches, "nodes"))?;
+    let pivots = number_or(USUAL_PIVOTS, MOST, text_of(matches, "pivots"))?;
+    Some(TreeSettings {
+        nodes,
+        pivots,
+        brief: stands(matches, "brief"),
+    })
+}
+
+fn tree_of(matches: &ArgMatches) -> Option<Command>
+    ensures { result ≡ tree_of (rows_of (found_of matches.now)) }
+{
+    if is_beyond_tree(matches) {
+        return None;
+    }
+    Some(Command::Tree(tree_settings_of(matches)?))
 }
 
 fn draft_of(solve: bool, numbers: &[&str]) -> Option<Draft>
@@ -309,6 +358,8 @@ fn command_named(name: &str, matches: &ArgMatches) -> Option<Command>
         gen_of(matches)
     } else if name == "solve" {
         solve_of(matches)
+    } else if name == "tree" {
+        tree_of(matches)
     } else if name == "lcp" {
         lcp_of(matches)
     } else if name == "bilevel" {

@@ -6,6 +6,9 @@ mod numbers;
 mod rules;
 mod taking;
 
-pub use command::{Command, Draft, Form, MOST_WORKERS, Settings, USUAL_PIECES, USUAL_PIVOTS};
+pub use command::{
+    Command, Draft, Form, MOST_WORKERS, Settings, TreeSettings, USUAL_NODES, USUAL_PIECES,
+    USUAL_PIVOTS,
+};
 pub use numbers::MOST;
 pub use taking::command_of;

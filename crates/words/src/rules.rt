@@ -65,7 +65,8 @@ fn with_tuning<'a>(alloc: Global) -> Result<Command<'a>, AllocError>
 {
     let start = with_options(alloc)?;
     let with_pivots = start.arg(option_arg(alloc, "pivots"))?;
-    with_pivots.arg(option_arg(alloc, "shrink"))
+    let with_nodes = with_pivots.arg(option_arg(alloc, "nodes"))?;
+    with_nodes.arg(option_arg(alloc, "shrink"))
 }
 
 /// The command by whose rules words are read.

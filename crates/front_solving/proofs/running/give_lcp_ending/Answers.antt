@@ -1,4 +1,3 @@
-use Rattle.std.proofs.Common.{◌+◌}
 use Rattle.engine.specs.Solved.{alone}
 use Rattle.front_solving.specs.Solving.{SaysOfLcp, lcp_case}
 use Rattle.front_solving.specs.Texts.{IsLcpText}

@@ -1,5 +1,6 @@
 use Rattle.std.specs.Prelude.{Ok}
 use Rattle.front_text.specs.Texts.{FailsAsLcp, SpellsLcp}
+use Rattle.front_deck.specs.Meanings.{IsDeckOfLcp}
 use Rattle.kkt_front.specs.DeckTexts.{lcp_text}
 use Rattle.fronting.specs.Runs.{IsLcpDeck}
 use Rattle.fronting.proofs.FrontRuns.{printed, refused, run_of}
@@ -11,7 +12,7 @@ returns-in-Ok-clause-answered g c = run_of SpellsLcp FailsAsLcp IsLcpDeck _ _ _ 
 pub returns-in-Ok-clause-printed : goal.returns-in-Ok-clause-printed
 returns-in-Ok-clause-printed g c = λ zero bytes told.
     let run = run_of SpellsLcp FailsAsLcp IsLcpDeck _ _ _ _ _ _ _ _ (Ok c.in-Ok.lcp) c.in-Ok.ensures.right c.give_lcp_deck.ensures in
-    printed SpellsLcp FailsAsLcp lcp_text _ _ _ _ _ _ _ _ bytes run told zero
+    printed SpellsLcp FailsAsLcp lcp_text IsDeckOfLcp (λ text p spelled. c.printed_decks_are_those_of_their_problems.ensures.lcp p spelled.rules) _ _ _ _ _ _ _ _ bytes run told zero
 
 pub returns-in-Err-clause-answered : goal.returns-in-Err-clause-answered
 returns-in-Err-clause-answered g c = refused SpellsLcp FailsAsLcp IsLcpDeck _ _ _ _ _ _ _ _ c.in-Err.refusal c.in-Err.ensures.right c.give_front_refusal.ensures
@@ -19,4 +20,4 @@ returns-in-Err-clause-answered g c = refused SpellsLcp FailsAsLcp IsLcpDeck _ _ 
 pub returns-in-Err-clause-printed : goal.returns-in-Err-clause-printed
 returns-in-Err-clause-printed g c = λ zero bytes told.
     let run = refused SpellsLcp FailsAsLcp IsLcpDeck _ _ _ _ _ _ _ _ c.in-Err.refusal c.in-Err.ensures.right c.give_front_refusal.ensures in
-    printed SpellsLcp FailsAsLcp lcp_text _ _ _ _ _ _ _ _ bytes run told zero
+    printed SpellsLcp FailsAsLcp lcp_text IsDeckOfLcp (λ text p spelled. c.printed_decks_are_those_of_their_problems.ensures.lcp p spelled.rules) _ _ _ _ _ _ _ _ bytes run told zero

@@ -2,7 +2,7 @@ use Rattle.std.proofs.Common.{ℕ, ◌∙◌, sym, ap}
 use Rattle.engine.specs.Solved.{alone}
 use Rattle.lpcc.specs.Commands.{as_asked}
 use Rattle.lpcc.proofs.Statuses.{of_solve}
-use Rattle.lpcc.proofs.run.run_solve_as_asked.Goals as goal
+use Rattle.lpcc.proofs.commands.run_solve_as_asked.Goals as goal
 
 pub returns-in-Some : goal.returns-in-Some
 returns-in-Some g c =

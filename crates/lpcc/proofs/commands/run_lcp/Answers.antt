@@ -2,7 +2,7 @@ use Rattle.std.proofs.Common.{ap}
 use Rattle.engine.specs.Solved.{alone}
 use Rattle.lpcc.specs.Commands.{by_one_worker}
 use Rattle.lpcc.proofs.Statuses.{of_lcp}
-use Rattle.lpcc.proofs.run.run_lcp.Goals as goal
+use Rattle.lpcc.proofs.commands.run_lcp.Goals as goal
 
 pub returns-then-solve : goal.returns-then-solve
 returns-then-solve g c =
