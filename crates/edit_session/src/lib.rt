@@ -8,5 +8,5 @@ mod session;
 mod taking;
 mod turn;
 
-pub use laws::no_drawn_piece_is_barred_by_a_kept_ray_cut;
+pub use laws::{no_drawn_piece_is_barred_by_a_kept_ray_cut, runs_over_one_case_agree};
 pub use session::Session;

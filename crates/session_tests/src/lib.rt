@@ -1,0 +1,5 @@
+//! Tests of edit sessions.
+#![tactic(auto)]
+
+#[cfg(test)]
+mod session_tests;
