@@ -1,5 +1,5 @@
 -- The words behind the first.
-use Rattle.std.proofs.Common.{ℕ, ◌<◌, ◌-◌, ◌≡◌, ◌∙◌, refl, sym, ap, arith, zero, suc, List, [], ◌∷◌, drop, take, length, map}
+use Rattle.std.proofs.Common.{◌<◌, ◌-◌, ◌≡◌, ◌∙◌, refl, sym, ap, arith, List, [], ◌∷◌, drop, take, length, map}
 
 pub none_behind : {A B : Type 0} (f : A → B) (xs : List A) → length xs < 1 → drop 1 (map f xs) ≡ []
 none_behind f [] h = refl

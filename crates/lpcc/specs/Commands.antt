@@ -1,5 +1,5 @@
 -- The commands of the program, and what a run of each says.
-use Rattle.std.specs.Prelude.{◌≡◌, ◌≤◌, ⊤, if◌then◌else◌, ℕ, true, false, List, [], ◌∷◌, ◌++◌, Option, Some, codes}
+use Rattle.std.specs.Prelude.{◌≡◌, ◌≤◌, ⊤, if◌then◌else◌, ℕ, true, false, List, Option, Some}
 use Rattle.lpcc_case.specs.Instance.{Instance}
 use Rattle.branching.specs.Branching as branching
 use Rattle.command.specs.Inputs.{SpellsAlone}

@@ -1,5 +1,5 @@
 -- The certificate of a whole derivation, and that of a point and a ray.
-use Rattle.std.proofs.Common.{inl, inr, ℕ, zero, suc, ◌+◌, ◌<◌, ◌≡◌, refl, sym, ap, ◌∙◌, subst, arith, List, [], ◌∷◌, ◌++◌, length, get_or, map, Option, Some, None}
+use Rattle.std.proofs.Common.{ℕ, zero, suc, ◌+◌, ◌≡◌, refl, sym, ap, ◌∙◌, subst, arith, List, [], ◌∷◌, ◌++◌, length, map, Option, Some, None}
 use Rattle.std.specs.Prelude.{All, Contains, Result, Ok, Err, IfOk}
 use Rattle.std.specs.List.{range_with_len}
 use Rattle.std.proofs.lemmas.List.{length-map}
@@ -17,8 +17,7 @@ use Rattle.cuts.specs.declared.cut.Cut.{Cut}
 use Rattle.cuts.specs.Cuts.{Passes}
 use Rattle.reasons.specs.Reasons.{IsPointIn, IsRayFor}
 use Rattle.derivation.specs.declared.step.Step.TheVariants.{Start}
-use Rattle.derivation.specs.Logs.{no_good_of, no_goods}
-use Rattle.trimming.specs.Trimmed.{step_at}
+use Rattle.derivation.specs.Logs.{no_good_of}
 use Rattle.cert_text.specs.declared.cert.Cert.{Cert}
 use Rattle.cert_text.specs.declared.cert.Cert.TheVariants as cert
 use Rattle.cert_text.specs.declared.cert.CertLine.{CertLine}
@@ -33,7 +32,6 @@ use Rattle.tree_engine.specs.Answers.{IsDirection}
 use Rattle.tree_engine.specs.Bests.{IsBest, IsVerdictOf}
 use Rattle.tree_engine.specs.Paths.{side_of}
 use Rattle.tree_engine.specs.declared.tree.Tree.{Tree}
-use Rattle.tree_engine.proofs.LoosePairs.{choice_is}
 use Rattle.tree_engine.proofs.Pieces.{tight_in_piece}
 use Rattle.tree_certs.specs.declared.refuting.Derivation.{Derivation}
 use Rattle.tree_certs.specs.Certs.{IsTreeCert, direction_cert}

@@ -1,5 +1,5 @@
 -- The steps of a tree: a leaf's, a side's, a resolvent's.
-use Rattle.std.proofs.Common.{inl, inr, ℕ, ◌+◌, ◌<◌, ◌≡◌, refl, sym, ap, ◌∙◌, subst, arith, true, false, IsTrue, List, [], ◌∷◌, ◌++◌, length, get_or, map, Option, append_assoc}
+use Rattle.std.proofs.Common.{inl, inr, ℕ, ◌+◌, ◌<◌, ◌≡◌, refl, sym, ap, ◌∙◌, subst, arith, true, false, IsTrue, List, [], ◌∷◌, ◌++◌, length, get_or, Option, append_assoc}
 use Rattle.std.specs.Prelude.{All, Contains, Result, Ok, Err, IfOk}
 use Rattle.std.proofs.lemmas.List.{append-nil, get_or_append_left, get_or_at, length-append, length-map}
 use Rattle.std.proofs.lemmas.List.Elements.{All-contains, All-weaker, Contains-get_or}
@@ -16,7 +16,6 @@ use Rattle.derivation.specs.declared.step.Step.{Step}
 use Rattle.derivation.specs.declared.step.Step.TheVariants.{Start, Derived}
 use Rattle.derivation.specs.HintRuns.{closes, is_assumed}
 use Rattle.derivation.specs.Logs.{no_good_of, no_goods}
-use Rattle.trimming.specs.Trimmed.{step_at}
 use Rattle.tree_engine.specs.Paths.{IsFree, choice_of, first_side, second_side, with_choice}
 use Rattle.tree_engine.specs.Trees.{Holds, IsLeafCut}
 use Rattle.tree_engine.specs.declared.tree.Tree.{Tree}

@@ -2,7 +2,7 @@
 use Rattle.std.proofs.Common.{inl, inr, ℕ, zero, suc, ◌+◌, ◌<◌, ◌≡◌, refl, sym, ap, ◌∙◌, subst, arith, Bool, true, false, IsTrue, ◌||◌, ◌&&◌, nat_eq, List, [], ◌∷◌, ◌++◌, length, get_or, take, ◌⊎◌}
 use Rattle.std.specs.Prelude.{◌↔◌, All, Contains, Result, Ok, Err, OnOk, cond, filter, if◌then◌else◌}
 use Rattle.std.proofs.lemmas.List.{append-nil, take_more}
-use Rattle.std.specs.List.{AllByRecursion, list_any}
+use Rattle.std.specs.List.{AllByRecursion}
 use Rattle.std.proofs.lemmas.Bool.{cases_Bool, eqb-true, eq-eqb, false≢true, lt-ltb}
 use Rattle.std.proofs.lemmas.List.Elements.{All-contains, All-contains_itself, All-filter, All-weaker, All-from_recursion, Contains-get_or, recursion_from_All}
 use Rattle.lp_base.proofs.Rises.{ascends_below, ascends_tail}
@@ -10,7 +10,7 @@ use Rattle.nogoods.specs.declared.choice.Choice.{Choice}
 use Rattle.nogoods.specs.declared.choice.Side.{Side}
 use Rattle.nogoods.specs.declared.choice.Side.TheVariants.{A, B}
 use Rattle.nogoods.specs.Choices.{other, pair_of, pairs_ascend, same_choice, same_side}
-use Rattle.derivation.specs.HintRuns.{closes, is_assumed, is_last, unassumed}
+use Rattle.derivation.specs.HintRuns.{closes, is_assumed, unassumed}
 use Rattle.derivation.proofs.RunSteps.{at_none, at_one}
 use Rattle.derivation.proofs.Soundness.{same_side-true}
 use Rattle.tree_engine.specs.Paths.{IsOn, choice_of, first_side, second_side, with_choice}

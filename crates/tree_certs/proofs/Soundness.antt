@@ -1,5 +1,5 @@
 -- Sound logs with one step more.
-use Rattle.std.proofs.Common.{ℕ, ◌<◌, ◌≡◌, arith, refl, sym, ap, ◌∙◌, subst, true, List, [], ◌∷◌, ◌++◌, map, Option}
+use Rattle.std.proofs.Common.{ℕ, ◌≡◌, arith, refl, sym, ap, ◌∙◌, subst, true, List, [], ◌∷◌, ◌++◌, Option}
 use Rattle.std.specs.Prelude.{All}
 use Rattle.std.proofs.lemmas.List.Elements.{All-nil, All-push}
 use Rattle.std.proofs.lemmas.Option.{slice_get_within}
@@ -13,7 +13,7 @@ use Rattle.derivation.specs.declared.step.Step.{Step}
 use Rattle.derivation.specs.declared.step.Step.TheVariants.{Start, Derived}
 use Rattle.derivation.specs.HintRuns.{closes}
 use Rattle.derivation.specs.Logs.{Follows, IsLog, no_good_of, no_goods}
-use Rattle.cert_parts.specs.Lines.{IsSoundCut, IsSoundLog, starts_of}
+use Rattle.cert_parts.specs.Lines.{IsSoundCut, IsSoundLog}
 use Rattle.cert_parts.proofs.StepLaws.{starts_derived, starts_start}
 use Rattle.tree_engine.proofs.Lists.{each_more, map_push}
 

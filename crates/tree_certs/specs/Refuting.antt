@@ -1,5 +1,5 @@
 -- A derivation while it is made.
-use Rattle.std.specs.Prelude.{◌≡◌, ◌<◌, ℕ, List, ◌∷◌, [], ◌++◌, All, Contains, IsTrue, Option, length}
+use Rattle.std.specs.Prelude.{◌≡◌, ◌<◌, ℕ, List, [], ◌++◌, All, Contains, IsTrue, Option, length}
 use Rattle.nogoods.specs.declared.choice.Choice.{Choice}
 use Rattle.nogoods.specs.Choices.{pairs_ascend}
 use Rattle.lpcc_case.specs.Instance.{Instance}
