@@ -1,11 +1,12 @@
 -- Which case and which script the bytes of an input spell, and for which refusal they are the cause before any edit is made.
-use Rattle.std.specs.Prelude.{ℕ, List, Option, Result, Ok, Err}
+use Rattle.std.specs.Prelude.{◌≤◌, ℕ, All, List, Option, Result, Ok, Err, length}
 use Rattle.lpcc_case.specs.Instance.{Instance}
 use Rattle.command.specs.Answers.{IsAnswer}
 use Rattle.command.specs.Inputs.{IsRefusal, IsTaken, SpellsCase}
 use Rattle.command.specs.declared.extent.Extent.TheVariants.{Prefix}
 use Rattle.command.specs.declared.reading.TheConstants.{MOST_DECK_BYTES}
 use Rattle.command.specs.declared.refusal.Refusal.TheVariants.{NoMemory, ReadFault}
+use Rattle.edit_text.specs.Scripts.{IsCommand}
 use Rattle.edit_text.specs.Texts.{Fails, Spells}
 use Rattle.edit_text.specs.declared.script.Script as scripts
 use Rattle.editing.specs.declared.refusal.EditRefusal.{EditRefusal}
@@ -16,6 +17,11 @@ use Rattle.editing.specs.declared.refusal.EditWhy.TheVariants.{Text, NoSuch, Loo
 -- a case to edit, and the script of the edits
 abbrev pub Edits : Type 0
 Edits = Instance × scripts.Script
+
+-- the numbers of the commands keep the rules, and there are no more commands than bytes that may be read
+pub record KeepsRules (script : scripts.Script) : Type 0 where
+  pub rules : All IsCommand script.commands
+  pub few : length script.commands ≤ MOST_DECK_BYTES
 
 -- the bytes begin with a deck that has this case, and the bytes behind it spell this script
 pub record SpellsEdits (bytes : List ℕ) (a : Instance) (script : scripts.Script) : Type 0 where

@@ -2,7 +2,7 @@
 ghost use Rattle.std.specs.Prelude.{◌≡◌, ◌<◌, ◌≤◌, ◌⊎◌, ◌^◌, ◌-◌, IfErr, IfOk, length};
 ghost use Rattle.command.specs.declared.refusal.Refusal.TheVariants.{NoMemory};
 ghost use Rattle.edit_text.specs.Texts.{Spells};
-ghost use Rattle.editing.specs.Inputs.{AreRightEdits, IsBehind, IsEditRefusal, SpellsEdits};
+ghost use Rattle.editing.specs.Inputs.{AreRightEdits, IsBehind, IsEditRefusal, KeepsRules, SpellsEdits};
 ghost use Rattle.editing.specs.declared.refusal.EditRefusal.TheVariants.{Input};
 
 use crate::laws::edits_are_read_once;
@@ -29,6 +29,7 @@ fn script_behind(alloc: Global, rest: &[u8]) -> Result<Script, EditRefusal>
 fn edits_in(alloc: Global, input: &[u8]) -> Result<(Case, Script), EditRefusal>
     requires { length input.now ≤ MOST_DECK_BYTES }
     ensures spelled { IfOk result (λ edits. SpellsEdits input.now edits.0 edits.1) }
+    ensures rules { IfOk result (λ edits. KeepsRules edits.1) }
     ensures refused { IfErr result (λ r. (r ≡ Input NoMemory) ⊎ IsEditRefusal MOST_DECK_BYTES input.now r) }
 {
     match case_in(alloc, input, Extent::Prefix) {
@@ -44,7 +45,8 @@ fn edits_in(alloc: Global, input: &[u8]) -> Result<(Case, Script), EditRefusal>
 /// together; or the first fault, the deck being judged first and then the whole script. The source is
 /// read to its end first.
 pub fn read_edits<S: Source>(alloc: Global, src: &mut S) -> Result<(Case, Script), EditRefusal>
-    ensures { AreRightEdits (S.left src.old) (S.faults src.old) (S.faults src.new) result }
+    ensures right { AreRightEdits (S.left src.old) (S.faults src.old) (S.faults src.new) result }
+    ensures rules { IfOk result (λ edits. KeepsRules edits.1) }
 {
     edits_are_read_once();
     let input = take(alloc, src, MOST_DECK_BYTES)?;

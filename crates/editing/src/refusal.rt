@@ -90,6 +90,14 @@ impl From<Refusal> for EditRefusal {
     }
 }
 
+impl From<AllocError> for EditRefusal {
+    ghost from_gives = { λ _ r. r ≡ Input NoMemory };
+
+    fn from(_error: AllocError) -> EditRefusal {
+        EditRefusal::Input(Refusal::NoMemory)
+    }
+}
+
 impl From<ScriptFault> for EditRefusal {
     ghost from_gives = { λ fault refusal. refusal ≡ of_script_fault fault };
 
