@@ -1,15 +1,8 @@
 //! `lpcc`, an exact global solver for linear programs with complementarity constraints.
 #![tactic(auto)]
 
-mod commands;
-mod dispatch;
-mod run;
-mod settings;
-#[cfg(test)]
-mod tests;
-
 use lp_io::{StdSink, StdSource};
-use run::run_called;
+use lpcc_run::run_called;
 use std::io;
 use std::process::ExitCode;
 use worker::NoGate;

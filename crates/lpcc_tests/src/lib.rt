@@ -1,0 +1,5 @@
+//! Tests of the runs of the program `lpcc`.
+#![tactic(auto)]
+
+#[cfg(test)]
+mod tests;
