@@ -1,0 +1,6 @@
+pub mod Naming
+pub mod Meaning
+pub mod Saying
+pub mod Verdicts
+pub mod Budgets
+pub mod Runs
