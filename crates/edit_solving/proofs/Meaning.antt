@@ -48,10 +48,10 @@ no_solving a (Add c) meant parts = meant
 no_solving a (Tighten con right) meant parts = meant
 no_solving a (Cost cost) meant parts = meant
 
-pub costing : (a : Instance) (columns : ℕ) (terms : Terms) (named : List (ℕ × ℤ)) (cost : List ℤ) → columns ≡ a.columns → AreNamed Ge terms named → AreTerms columns named → cost ≡ numbers_of columns named → IsOwnEdit a (command.Cost terms) (Some (Cost cost))
-costing a columns terms named cost e names right is =
+pub costing : (a : Instance) (columns : ℕ) (terms : Terms) (named list : List (ℕ × ℤ)) (cost : List ℤ) → columns ≡ a.columns → AreNamed Ge terms named → AreTerms columns named → list ≡ named → cost ≡ numbers_of columns list → IsOwnEdit a (command.Cost terms) (Some (Cost cost))
+costing a columns terms named list cost e names right same is =
     let there : AreTerms a.columns named = subst (λ (n : ℕ). AreTerms n named) e right in
-    let made : cost ≡ numbers_of a.columns named = is ∙ ap (λ (n : ℕ). numbers_of n named) e in
+    let made : cost ≡ numbers_of a.columns named = is ∙ ap (λ (n : ℕ). numbers_of n list) e ∙ ap (numbers_of a.columns) same in
     ((named, names, there, made), ap length made ∙ length-map-range_with_len (coefficient named) 0 a.columns)
 
 -- an edit that has its parts is refused for another reason

@@ -1,9 +1,11 @@
 -- The columns that the terms of a script name.
-use Rattle.std.proofs.Common.{ℕ, ◌+◌, ◌<◌, ◌≤◌, ◌≡◌, ◌≢◌, refl, sym, ◌∙◌, ap, subst, arith, ℤ, pos, inl, inr, List, [], ◌∷◌, ◌++◌, map, length, get_or, take}
+use Rattle.std.proofs.Common.{ℕ, ◌+◌, ◌<◌, ◌≤◌, ◌≡◌, ◌≢◌, refl, sym, ◌∙◌, ap, subst, arith, Bool, true, false, ℤ, pos, inl, inr, List, [], ◌∷◌, ◌++◌, map, length, get_or, take}
 use Rattle.std.specs.Prelude.{neg_ℤ, All, Option, None, Some, unsigned_abs}
+use Rattle.std.proofs.lemmas.Bool.{false≢true}
 use Rattle.std.proofs.lemmas.Int.{ints}
 use Rattle.std.proofs.lemmas.List.{get_or-map, length-map, map-append, take_all, take_more}
 use Rattle.std.proofs.lemmas.List.Elements.{All-append, All-cons, All-nil}
+use Rattle.lp_base.specs.Ascending.{ascends_by, number_of}
 use Rattle.lp_base.specs.Numbers.{IsNarrow}
 use Rattle.edit_text.specs.Scripts.{IsTerm, Terms}
 use Rattle.edit_text.specs.declared.script.Relation.{Relation}
@@ -95,3 +97,7 @@ no_column columns relation terms i inside none ts names right =
 -- columns that do not ascend
 pub not_ascending : (columns : ℕ) (relation : Relation) (terms : Terms) (named : List (ℕ × ℤ)) → AreNamed relation terms named → (AreTerms columns named → ⊥) → (ts : List (ℕ × ℤ)) → AreNamed relation terms ts → AreTerms columns ts → ⊥
 not_ascending columns relation terms named names none ts others right = none (subst (AreTerms columns) (named_once relation ts named (sym others ∙ names)) right)
+
+pub never_ascends : (columns : ℕ) (b : Bool) (list named : List (ℕ × ℤ)) → b ≡ ascends_by number_of list → list ≡ named → b ≡ false → AreTerms columns named → ⊥
+never_ascends columns b list named is same off right =
+    false≢true (sym off ∙ is ∙ ap (ascends_by number_of) same ∙ right.ascending)

@@ -28,8 +28,8 @@ pub short_run : (o : Options) (left : Option (List ℕ)) (rb rn : ℕ) (tb tn : 
 short_run o left rb rn tb tn wb wn status w = record { read = Err (Input short); right = out_of_memory left rb rn; said = Err (Input short); says = refl; written = w }
 
 -- the script was followed
-pub said_run : (o : Options) (left : Option (List ℕ)) (rb rn : ℕ) (tb tn : Option (List ℕ)) (wb wn status : ℕ) (a : Instance) (script : scripts.Script) (text : List ℕ) (meant : ℕ) → AreRightEdits left rb rn (Ok (a, script)) → Says (opened a o) 1 script.commands (Ok (text, meant)) → IsWritten tb tn wb wn text meant status → IsEditRun o left rb rn tb tn wb wn status
-said_run o left rb rn tb tn wb wn status a script text meant right says w = record { read = Ok (a, script); right = right; said = Ok (text, meant); says = says; written = w }
+pub said_run : (o : Options) (left : Option (List ℕ)) (rb rn : ℕ) (tb tn : Option (List ℕ)) (wb wn status : ℕ) (a : Instance) (script : scripts.Script) (text given : List ℕ) (meant : ℕ) → AreRightEdits left rb rn (Ok (a, script)) → Says (opened a o) 1 script.commands (Ok (text, meant)) → given ≡ text → IsWritten tb tn wb wn given meant status → IsEditRun o left rb rn tb tn wb wn status
+said_run o left rb rn tb tn wb wn status a script text given meant right says same w = record { read = Ok (a, script); right = right; said = Ok (text, meant); says = says; written = subst (λ (x : List ℕ). IsWritten tb tn wb wn x meant status) same w }
 
 -- a refusal was written, or that memory ran out
 given_run : (o : Options) (left : Option (List ℕ)) (rb rn : ℕ) (tb tn : Option (List ℕ)) (wb wn status : ℕ) (read : Result Edits EditRefusal) (refusal given : EditRefusal) → AreRightEdits left rb rn read → IsSaid o read (Err refusal) → (given ≡ refusal) ⊎ (given ≡ Input short)

@@ -80,8 +80,8 @@ Says s line [] said = said ≡ Ok ([], 0)
 Says s line (c ∷ commands) said =
     ((why : EditWhy) × IsRefused s.kept.case_of c why × (said ≡ Err (Script line why)))
     ⊎ ((t : SessionView) × (text : List ℕ) × (status : ℕ) × IsDone c s t text status
-        × (((status ≢ 0) × (said ≡ Ok (text, status)))
-            ⊎ ((status ≡ 0) × (more : Said) × Says t (line + 1) commands more × (said ≡ behind text more))))
+    × (((status ≢ 0) × (said ≡ Ok (text, status)))
+    ⊎ ((status ≡ 0) × (more : Said) × Says t (line + 1) commands more × (said ≡ behind text more))))
 
 -- ---- where each answer is a verdict
 

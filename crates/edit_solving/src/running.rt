@@ -1,14 +1,37 @@
 //! The command over a source and a sink.
-ghost use Rattle.std.specs.Prelude.{◌≡◌, ℕ, List, Some};
+ghost use Rattle.std.specs.Prelude.{◌≡◌, ◌⊎◌, ℕ, Err, IfErr, IfOk, List, Ok, Some};
 ghost use Rattle.lpcc_case.specs.Instance.{Instance};
+ghost use Rattle.command.specs.declared.refusal.Refusal.TheVariants.{NoMemory};
 ghost use Rattle.edit_text.specs.declared.script.Script.{Script as Commands};
-ghost use Rattle.editing.specs.Inputs.{SpellsEdits};
-ghost use Rattle.edit_solving.specs.Runs.{AreEnough, IsEditRun, SaysVerdicts};
+ghost use Rattle.editing.specs.Inputs.{KeepsRules, SpellsEdits};
+ghost use Rattle.editing.specs.declared.refusal.EditRefusal.TheVariants.{Input};
+ghost use Rattle.edit_solving.specs.Runs.{AreEnough, IsEditRun, SaysVerdicts, opened};
+ghost use Rattle.edit_solving.specs.Scripts.{Says};
 
-use command::{Status, give_no_memory};
+use crate::scripts::say;
+use command::{Status, give};
+use edit_session::Session;
+use edit_text::Script;
+use editing::{EditRefusal, give_edit_refusal, read_edits};
 use lp_io::{Sink, Source};
+use lpcc_case::Case;
 use play::Options;
 use std::alloc::Global;
+
+// What the script says over the case.
+fn say_over(
+    alloc: Global,
+    case: Case,
+    script: &Script,
+    options: &Options,
+) -> Result<(Vec<u8>, u8), EditRefusal>
+    requires { KeepsRules script.now }
+    ensures said { IfOk result (λ said. Says (opened case options.now) 1 script.now.commands (Ok (said.0.items, said.1))) }
+    ensures refused { IfErr result (λ r. (r ≡ Input NoMemory) ⊎ Says (opened case options.now) 1 script.now.commands (Err r)) }
+{
+    let mut session = Session::create(alloc, case, *options);
+    say(alloc, &mut session, script.commands.as_slice())
+}
 
 /// Reads a deck and the script of edits behind it, edits the case of the deck by the script, and writes
 /// what is answered on the way, or the one line that is refused; answers the status that a program ends
@@ -33,5 +56,11 @@ pub fn run_edits<S: Source, K: Sink>(
     ensures enough { (bytes : List ℕ) → S.left src.old ≡ Some bytes → (a : Instance) → (script : Commands) →
         SpellsEdits bytes a script → AreEnough a script options.now → result ≡ 8 → ⊥ }
 {
-    give_no_memory(out)
+    match read_edits(alloc, src) {
+        Ok((case, script)) => match say_over(alloc, case, &script, options) {
+            Ok((text, status)) => give(text.as_slice(), status, out),
+            Err(refusal) => give_edit_refusal(alloc, refusal, out),
+        },
+        Err(refusal) => give_edit_refusal(alloc, refusal, out),
+    }
 }
