@@ -1,5 +1,5 @@
 -- One command, and the statuses of commands.
-use Rattle.std.proofs.Common.{ℕ, ◌≡◌, ◌∙◌, refl, sym, ap, subst, arith, true, false, Bool, List, Option, None, Some, inl, inr}
+use Rattle.std.proofs.Common.{ℕ, ◌+◌, ◌≡◌, ◌∙◌, refl, sym, ap, subst, arith, true, false, Bool, List, [], ◌∷◌, Option, None, Some, inl, inr}
 use Rattle.std.specs.Prelude.{◌⊎◌, ◌≢◌, Ok, Err, Result}
 use Rattle.lpcc_case.specs.Instance.{Instance}
 use Rattle.branching.specs.Branching as branching
@@ -17,6 +17,16 @@ use Rattle.converting.specs.declared.refusal.Refusal as certificate_refusals
 use Rattle.converting.specs.declared.refusal.Refusal.TheVariants as certificate_refusal
 use Rattle.deck_gen.specs.Generator.{deck_text}
 use Rattle.deck_gen.specs.declared.sizes.Sizes.{Sizes}
+use Rattle.edit_session.specs.Answers.{SessionView}
+use Rattle.edit_solving.specs.Runs as edit_runs
+use Rattle.edit_solving.specs.Scripts as scripts
+use Rattle.edit_text.specs.declared.script.Command.{Command as Line}
+use Rattle.edit_text.specs.declared.script.Command.TheVariants as line
+use Rattle.edit_text.specs.declared.script.Script.{Script}
+use Rattle.editing.specs.Inputs.{Edits, SpellsEdits}
+use Rattle.editing.specs.Refusals as edit_refusals
+use Rattle.editing.specs.declared.refusal.EditRefusal.{EditRefusal}
+use Rattle.editing.specs.declared.refusal.EditRefusal.TheVariants as edit_refusal
 use Rattle.front_text.specs.Texts.{FailsAsBilevel, FailsAsLcp, SpellsBilevel, SpellsLcp}
 use Rattle.front_text.specs.declared.fault.FrontWhy.{FrontWhy}
 use Rattle.fronting.specs.Refusals as front_refusals
@@ -41,13 +51,14 @@ use Rattle.tree_engine.specs.declared.answer.Branch.TheVariants as branch
 use Rattle.tree_engine.specs.declared.answer.BranchOptions.{BranchOptions}
 use Rattle.verifier.specs.Runs.{IsChecked}
 use Rattle.words.specs.declared.command.Command.{Command}
-use Rattle.words.specs.declared.command.Command.TheVariants.{Bilevel, Check, Generate, Lcp, Migrate, Relax, Solve, Tree}
+use Rattle.words.specs.declared.command.Command.TheVariants.{Bilevel, Check, Edit, Generate, Lcp, Migrate, Relax, Solve, Tree}
 use Rattle.words.specs.declared.command.Draft.{Draft}
+use Rattle.words.specs.declared.command.EditSettings.{EditSettings}
 use Rattle.words.specs.declared.command.Settings.{Settings}
 use Rattle.words.specs.declared.command.TreeSettings.{TreeSettings}
 use Rattle.verifier.specs.declared.answer.Answer.TheVariants.{Refused}
 use Rattle.lpcc_run.specs.Answers.{Answers, words_refused}
-use Rattle.lpcc_run.specs.Commands.{IsCommand, IsNoCommand, IsNoSolve, Runs, as_asked, by_one_worker, limits_of, sizes_of, style_of, usual}
+use Rattle.lpcc_run.specs.Commands.{IsCommand, IsNoCommand, IsNoSolve, Runs, as_asked, by_one_worker, limits_of, session_options, sizes_of, style_of, usual}
 
 -- ---- one command
 
@@ -111,6 +122,35 @@ branch_not_two (branch.NodesSpent nodes left run) e = omega arith
 tree_not_two : (s : TreeSettings) (left : Option (List ℕ)) (rb rn : ℕ) (tb tn : Option (List ℕ)) (wb wn : ℕ) → IsRun (branching.Says (limits_of s) s.brief) left rb rn tb tn wb wn 2 → ⊥
 tree_not_two s left rb rn tb tn wb wn run = run_not_two (branching.Says (limits_of s) s.brief) left rb rn tb tn wb wn (λ a text meant says e. branch_not_two says.answer (e ∙ says.status_is)) run
 
+edit_refusal_not_two : (r : EditRefusal) → 2 ≡ edit_refusals.status_of r → ⊥
+edit_refusal_not_two (edit_refusal.Input r) e = refusal_not_two r e
+edit_refusal_not_two (edit_refusal.Script number why) e = omega arith
+
+done_not_two : (c : Line) (s t : SessionView) (text : List ℕ) (status : ℕ) → scripts.IsDone c s t text status → 2 ≡ status → ⊥
+done_not_two (line.Add relation rhs terms) s t text status done e = omega (arith, e, done.1.1)
+done_not_two (line.Tighten con rhs) s t text status done e = omega (arith, e, done.1.1)
+done_not_two (line.Cost terms) s t text status done e = omega (arith, e, done.1.1)
+done_not_two line.Solve s t text status done e = ending_not_two done.end (e ∙ done.status_is)
+
+behind_keeps : (text : List ℕ) (said : scripts.Said) → edit_runs.status_of (scripts.behind text said) ≡ edit_runs.status_of said
+behind_keeps text (Ok said) = refl
+behind_keeps text (Err refusal) = refl
+
+script_not_two : (lines : List Line) (s : SessionView) (number : ℕ) (said : scripts.Said) → scripts.Says s number lines said → 2 ≡ edit_runs.status_of said → ⊥
+script_not_two [] s number said is e = omega (arith, e, ap edit_runs.status_of is)
+script_not_two (c ∷ lines) s number said (inl bad) e = omega (arith, e, ap edit_runs.status_of bad.2)
+script_not_two (c ∷ lines) s number said (inr (t, text, status, done, inl stop)) e = done_not_two c s t text status done (e ∙ ap edit_runs.status_of stop.1)
+script_not_two (c ∷ lines) s number said (inr (t, text, status, done, inr (nought, more, next, is))) e =
+    script_not_two lines t (number + 1) more next (e ∙ ap edit_runs.status_of is ∙ behind_keeps text more)
+
+said_not_two : (o : Options) (read : Result Edits EditRefusal) (said : scripts.Said) → edit_runs.IsSaid o read said → 2 ≡ edit_runs.status_of said → ⊥
+said_not_two o (Ok edits) said says e = script_not_two edits.1.commands (edit_runs.opened edits.0 o) 1 said says e
+said_not_two o (Err refusal) said says e = edit_refusal_not_two refusal (e ∙ ap edit_runs.status_of says)
+
+edits_not_two : (o : Options) (left : Option (List ℕ)) (rb rn : ℕ) (tb tn : Option (List ℕ)) (wb wn : ℕ) → edit_runs.IsEditRun o left rb rn tb tn wb wn 2 → ⊥
+edits_not_two o left rb rn tb tn wb wn run =
+    written_not_two tb tn wb wn (edit_runs.text_of run.said) (edit_runs.status_of run.said) (said_not_two o run.read run.said run.says) run.written
+
 memory_not_two : (tb tn : Option (List ℕ)) (wb wn : ℕ) → IsOutOfMemory tb tn wb wn 2 → ⊥
 memory_not_two tb tn wb wn w = written_not_two tb tn wb wn (refusals.text_of NoMemory) 6 (λ e. omega arith) w
 
@@ -164,6 +204,7 @@ not_two o law Migrate left rb rn tb tn wb wn run =
 not_two o law (Relax q) left rb rn tb tn wb wn run = run_not_two (relaxing.Says q) left rb rn tb tn wb wn (λ a text meant says e. relaxation_not_two says.end (e ∙ says.status_is)) run.0
 not_two o law (Solve s) left rb rn tb tn wb wn run = solve_not_two (o s) (style_of s) left rb rn tb tn wb wn run.0
 not_two o law (Tree s) left rb rn tb tn wb wn run = tree_not_two s left rb rn tb tn wb wn run.0
+not_two o law (Edit s) left rb rn tb tn wb wn run = edits_not_two (session_options s) left rb rn tb tn wb wn run.0
 not_two o law (Generate d) left rb rn tb tn wb wn run = made_not_two o d left rb rn tb tn wb wn d.solve refl run
 not_two o law (Lcp solve) left rb rn tb tn wb wn run = lcp_not_two left rb rn tb tn wb wn solve solve refl o run
 not_two o law (Bilevel solve) left rb rn tb tn wb wn run = bilevel_not_two left rb rn tb tn wb wn solve solve refl o run
@@ -191,6 +232,13 @@ of_tree how s o left rb rn tb tn wb wn status e answered verdict enough narrow =
   narrow,
 )
 
+pub of_edits : (how : Settings → Options) (s : EditSettings) (o : Options) (left : Option (List ℕ)) (rb rn : ℕ) (tb tn : Option (List ℕ)) (wb wn status : ℕ) → o ≡ session_options s → edit_runs.IsEditRun o left rb rn tb tn wb wn status → (status ≡ 0 → (bytes : List ℕ) → left ≡ Some bytes → edit_runs.SaysVerdicts bytes tb tn) → ((bytes : List ℕ) → left ≡ Some bytes → (a : Instance) (script : Script) → SpellsEdits bytes a script → edit_runs.AreEnough a script o → status ≡ 8 → ⊥) → Runs how (Edit s) left rb rn tb tn wb wn status
+of_edits how s o left rb rn tb tn wb wn status e answered verdicts enough = (
+  subst (λ (x : Options). edit_runs.IsEditRun x left rb rn tb tn wb wn status) e answered,
+  verdicts,
+  λ bytes told a script spelled many. enough bytes told a script spelled (subst (λ (x : Options). edit_runs.AreEnough a script x) (sym e) many),
+)
+
 -- the workers matter to a solve alone
 pub of_alone : (c : Command) (left : Option (List ℕ)) (rb rn : ℕ) (tb tn : Option (List ℕ)) (wb wn status : ℕ) → IsNoSolve c → Runs by_one_worker c left rb rn tb tn wb wn status → Runs as_asked c left rb rn tb tn wb wn status
 of_alone Check left rb rn tb tn wb wn status other run = run
@@ -198,6 +246,7 @@ of_alone Migrate left rb rn tb tn wb wn status other run = run
 of_alone (Relax q) left rb rn tb tn wb wn status other run = run
 of_alone (Solve s) left rb rn tb tn wb wn status other run = absurd (other s refl)
 of_alone (Tree s) left rb rn tb tn wb wn status other run = run
+of_alone (Edit s) left rb rn tb tn wb wn status other run = run
 of_alone (Generate d) left rb rn tb tn wb wn status other run = run
 of_alone (Lcp solve) left rb rn tb tn wb wn status other run = run
 of_alone (Bilevel solve) left rb rn tb tn wb wn status other run = run
@@ -238,6 +287,15 @@ short_check left count tb tn wb wn status short = record { answer = Refused NoMe
 short_conversion : (left : Option (List ℕ)) (count : ℕ) (tb tn : Option (List ℕ)) (wb wn status : ℕ) → IsOutOfMemory tb tn wb wn status → converted.IsConverted left count count tb tn wb wn status
 short_conversion left count tb tn wb wn status short = record { read = Err certificate_refusal.NoMemory; right = record { counted = λ e. absurd (cc e); right = λ bytes told. inr (inl refl) }; written = short }
 
+short_edits : (o : Options) (left : Option (List ℕ)) (count : ℕ) (tb tn : Option (List ℕ)) (wb wn status : ℕ) → IsOutOfMemory tb tn wb wn status → edit_runs.IsEditRun o left count count tb tn wb wn status
+short_edits o left count tb tn wb wn status short = record {
+  read = Err (edit_refusal.Input NoMemory);
+  right = record { counted = λ e. absurd (cc e); right = λ bytes told. inr (inl refl) };
+  said = Err (edit_refusal.Input NoMemory);
+  says = refl;
+  written = short;
+}
+
 five_or_six : (tb tn : Option (List ℕ)) (wb wn status : ℕ) → IsOutOfMemory tb tn wb wn status → (status ≡ 5) ⊎ (status ≡ 6)
 five_or_six tb tn wb wn status (inl w) = inr w.0
 five_or_six tb tn wb wn status (inr w) = inl w.0
@@ -263,6 +321,9 @@ of_memory how (Solve s) left count tb tn wb wn status short =
 of_memory how (Tree s) left count tb tn wb wn status short =
     let five_six = five_or_six tb tn wb wn status short in
     (short_run (branching.Says (limits_of s) s.brief) left count tb tn wb wn status short, λ zero. absurd (is_other 0 status (λ e. omega arith) (λ e. omega arith) five_six zero), λ bytes told a spelled many eight. is_other 8 status (λ e. omega arith) (λ e. omega arith) five_six eight, λ bytes told a spelled none seven. is_other 7 status (λ e. omega arith) (λ e. omega arith) five_six seven)
+of_memory how (Edit s) left count tb tn wb wn status short =
+    let five_six = five_or_six tb tn wb wn status short in
+    (short_edits (session_options s) left count tb tn wb wn status short, λ zero. absurd (is_other 0 status (λ e. omega arith) (λ e. omega arith) five_six zero), λ bytes told a script spelled many eight. is_other 8 status (λ e. omega arith) (λ e. omega arith) five_six eight)
 of_memory how (Generate d) left count tb tn wb wn status short = (λ off. inr short, λ on. inr short)
 of_memory how (Lcp solve) left count tb tn wb wn status short =
     let five_six = five_or_six tb tn wb wn status short in

@@ -7,6 +7,9 @@ use Rattle.command.specs.Runs.{IsRun}
 use Rattle.converting.specs.Runs.{IsConverted, SaysConverted}
 use Rattle.deck_gen.specs.Generator.{IsInRange}
 use Rattle.deck_gen.specs.declared.sizes.Sizes.{Sizes}
+use Rattle.edit_solving.specs.Runs as editing
+use Rattle.edit_text.specs.declared.script.Script.{Script}
+use Rattle.editing.specs.Inputs.{SpellsEdits}
 use Rattle.generating.specs.Generating.{IsGenerated, IsGeneratedAndSolved}
 use Rattle.fronting.specs.Runs.{IsBilevelDeck, IsBilevelRun, IsLcpDeck, IsLcpRun, SaysBilevelDeck, SaysLcpDeck}
 use Rattle.front_solving.specs.Solving.{IsBilevelAnswered, IsLcpAnswered, SaysOfBilevel, SaysOfLcp}
@@ -20,8 +23,9 @@ use Rattle.tree_engine.specs.declared.answer.BranchOptions.{BranchOptions}
 use Rattle.verifier.specs.Runs.{IsChecked, SaysYes}
 use Rattle.words.specs.Commands.{command_of}
 use Rattle.words.specs.declared.command.Command.{Command}
-use Rattle.words.specs.declared.command.Command.TheVariants.{Bilevel, Check, Generate, Lcp, Migrate, Relax, Solve, Tree}
+use Rattle.words.specs.declared.command.Command.TheVariants.{Bilevel, Check, Edit, Generate, Lcp, Migrate, Relax, Solve, Tree}
 use Rattle.words.specs.declared.command.Draft.{Draft}
+use Rattle.words.specs.declared.command.EditSettings.{EditSettings}
 use Rattle.words.specs.declared.command.Form.{Form}
 use Rattle.words.specs.declared.command.Form.TheVariants as form
 use Rattle.words.specs.declared.command.Settings.{Settings}
@@ -35,6 +39,7 @@ IsPossible Migrate = ⊤
 IsPossible (Relax pivots) = ⊤
 IsPossible (Solve settings) = (1 ≤ settings.workers) × (settings.workers ≤ MOST_WORKERS)
 IsPossible (Tree settings) = ⊤
+IsPossible (Edit settings) = ⊤
 IsPossible (Generate draft) = IsInRange draft.columns draft.rows draft.pairs
 IsPossible (Lcp solve) = ⊤
 IsPossible (Bilevel solve) = ⊤
@@ -78,6 +83,10 @@ usual = record { workers = 1; pieces = USUAL_PIECES; pivots = USUAL_PIVOTS; shri
 -- how long a search by branching may be
 abbrev pub limits_of : TreeSettings → BranchOptions
 limits_of s = record { nodes = s.nodes; pivots = s.pivots }
+
+-- the options of the answers to a script: those of a solve whose words name no others
+abbrev pub session_options : EditSettings → Options
+session_options s = record usual { pieces = s.pieces; pivots = s.pivots }
 
 abbrev pub sizes_of : Draft → Sizes
 sizes_of d = record { seed = d.seed; columns = d.columns; rows = d.rows; pairs = d.pairs }
@@ -129,6 +138,10 @@ Runs options_of (Tree settings) left rb rn tb tn wb wn status =
     × (status ≡ 0 → (bytes : List ℕ) → left ≡ Some bytes → branching.SaysVerdict bytes settings.brief tb tn)
     × ((bytes : List ℕ) → left ≡ Some bytes → (a : Instance) → SpellsAlone bytes a → branching.AreEnough a (limits_of settings) → status ≡ 8 → ⊥)
     × ((bytes : List ℕ) → left ≡ Some bytes → (a : Instance) → SpellsAlone bytes a → branching.NoneIsWide a → status ≡ 7 → ⊥)
+Runs options_of (Edit settings) left rb rn tb tn wb wn status =
+    editing.IsEditRun (session_options settings) left rb rn tb tn wb wn status
+    × (status ≡ 0 → (bytes : List ℕ) → left ≡ Some bytes → editing.SaysVerdicts bytes tb tn)
+    × ((bytes : List ℕ) → left ≡ Some bytes → (a : Instance) (script : Script) → SpellsEdits bytes a script → editing.AreEnough a script (session_options settings) → status ≡ 8 → ⊥)
 Runs options_of (Generate draft) left rb rn tb tn wb wn status =
     (draft.solve ≡ false → IsGenerated (sizes_of draft) tb tn wb wn status)
     × (draft.solve ≡ true → IsGeneratedAndSolved usual (sizes_of draft) tb tn wb wn status)

@@ -2,11 +2,12 @@
 ghost use Rattle.std.specs.Prelude.{◌≤◌, ℕ, List, Option};
 ghost use Rattle.deck_gen.specs.Generator.{IsInRange};
 ghost use Rattle.lpcc_run.specs.Commands.{Runs, as_asked, by_one_worker};
-ghost use Rattle.words.specs.declared.command.Command.TheVariants.{Bilevel, Generate, Lcp, Solve, Tree};
+ghost use Rattle.words.specs.declared.command.Command.TheVariants.{Bilevel, Edit, Generate, Lcp, Solve, Tree};
 
-use crate::settings::{limits_of, many_workers, options_of, style_of, usual};
+use crate::settings::{limits_of, many_workers, options_of, session_options, style_of, usual};
 use branching::run_tree;
 use command::Status;
+use edit_solving::run_edits;
 use front_solving::{solve_bilevel, solve_lcp};
 use fronting::{print_bilevel, print_lcp};
 use generating::{generate, generate_and_solve};
@@ -15,7 +16,7 @@ use solving::{run_solve, run_solve_with};
 use std::alloc::Global;
 use std::sync::Wait;
 use std::thread::Threads;
-use words::{Draft, MOST_WORKERS, Settings, TreeSettings};
+use words::{Draft, EditSettings, MOST_WORKERS, Settings, TreeSettings};
 use worker::Gate;
 
 /// Makes a deck, and solves it where that is asked for.
@@ -110,4 +111,17 @@ pub(crate) fn run_branching<S: Source, K: Sink>(
         (K.taken out.old) (K.taken out.new) (K.faults out.old) (K.faults out.new) result }
 {
     run_tree(alloc, &limits_of(settings), settings.brief, src, out)
+}
+
+/// Edits a deck by a script, and solves it on the way.
+pub(crate) fn run_session<S: Source, K: Sink>(
+    alloc: Global,
+    settings: EditSettings,
+    src: &mut S,
+    out: &mut K,
+) -> Status
+    ensures { Runs by_one_worker (Edit settings) (S.left src.old) (S.faults src.old) (S.faults src.new)
+        (K.taken out.old) (K.taken out.new) (K.faults out.old) (K.faults out.new) result }
+{
+    run_edits(alloc, &session_options(settings), src, out)
 }

@@ -5,7 +5,8 @@ ghost use Rattle.words.specs.declared.command.Command.TheVariants.{Generate, Sol
 ghost use Rattle.words.specs.declared.command.Draft.{Draft as Plan};
 
 use crate::commands::{
-    run_bilevel, run_branching, run_draft, run_lcp, run_solve_alone, run_solve_as_asked,
+    run_bilevel, run_branching, run_draft, run_lcp, run_session, run_solve_alone,
+    run_solve_as_asked,
 };
 use command::Status;
 use converting::convert;
@@ -27,6 +28,7 @@ fn is_possible(command: Command) -> bool
         | Command::Migrate
         | Command::Relax(_)
         | Command::Tree(_)
+        | Command::Edit(_)
         | Command::Lcp { .. }
         | Command::Bilevel { .. } => true,
         Command::Solve(settings) => 1 <= settings.workers && settings.workers <= MOST_WORKERS,
@@ -62,6 +64,7 @@ fn solve_of(command: Command) -> Option<Settings>
         | Command::Migrate
         | Command::Relax(_)
         | Command::Tree(_)
+        | Command::Edit(_)
         | Command::Generate(_)
         | Command::Lcp { .. }
         | Command::Bilevel { .. } => None,
@@ -86,6 +89,7 @@ pub(crate) fn run_command<S: Source, K: Sink>(
         Command::Relax(pivots) => relax(alloc, pivots, src, out),
         Command::Solve(settings) => run_solve_alone(alloc, settings, src, out),
         Command::Tree(settings) => run_branching(alloc, settings, src, out),
+        Command::Edit(settings) => run_session(alloc, settings, src, out),
         Command::Generate(draft) => run_draft(alloc, draft, out),
         Command::Lcp { solve } => run_lcp(alloc, solve, src, out),
         Command::Bilevel { solve } => run_bilevel(alloc, solve, src, out),

@@ -1,11 +1,11 @@
 //! What the words ask of a solve.
 ghost use Rattle.std.specs.Prelude.{◌≡◌, ◌≤◌, MatchOption};
-ghost use Rattle.lpcc_run.specs.Commands.{as_asked, by_one_worker, limits_of, style_of, usual};
+ghost use Rattle.lpcc_run.specs.Commands.{as_asked, by_one_worker, limits_of, session_options, style_of, usual};
 
 use play::{Options, ShrinkMode, Workers};
 use report::Style;
 use tree_engine::BranchOptions;
-use words::{Form, MOST_WORKERS, Settings, TreeSettings, USUAL_PIECES, USUAL_PIVOTS};
+use words::{EditSettings, Form, MOST_WORKERS, Settings, TreeSettings, USUAL_PIECES, USUAL_PIVOTS};
 
 /// The options with one worker.
 pub(crate) fn options_of(settings: Settings) -> Options
@@ -76,5 +76,16 @@ pub(crate) fn limits_of(settings: TreeSettings) -> BranchOptions
     BranchOptions {
         nodes: settings.nodes,
         pivots: settings.pivots,
+    }
+}
+
+/// The options of the answers to a script of edits.
+pub(crate) fn session_options(settings: EditSettings) -> Options
+    ensures { result ≡ session_options settings }
+{
+    Options {
+        pieces: settings.pieces,
+        pivots: settings.pivots,
+        ..usual()
     }
 }

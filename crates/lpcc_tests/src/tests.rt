@@ -127,6 +127,15 @@ fn words(rt: HostRuntime) -> Result<(), Fail> {
         "tree --solve",
         "tree -j 1",
         "tree 1",
+        "edit --pieces 0",
+        "edit --pivots 9223372036854775808",
+        "edit --nodes 1",
+        "edit --shrink none",
+        "edit --form 2",
+        "edit --brief",
+        "edit --solve",
+        "edit -j 1",
+        "edit 1",
         "gen 7 2 1 2",
         "gen 7 2 1",
         "gen 7 2 --solve 1 1",
@@ -266,6 +275,167 @@ fn answers(rt: HostRuntime) -> Result<(), Fail> {
     Ok(())
 }
 
+/// The status and what is written for words and a deck with a script behind it.
+fn answer_script(
+    alloc: Global,
+    line: &str,
+    deck: &str,
+    script: &str,
+) -> Result<(u8, String), Fail> {
+    let input = format!(in alloc; "{deck}{script}")?;
+    answer(alloc, line, &input)
+}
+
+#[test]
+fn scripts(rt: HostRuntime) -> Result<(), Fail> {
+    let rows = [
+        (
+            "edit",
+            BOUNDED,
+            "solve\nadd G -3 : 1 -1 2 -1\nsolve\ntighten 4 -1\nsolve\ncost : 1 -1 2 -5\nsolve\nend\n",
+            0,
+            "* optimal -4\n* drawn 2\n* optimal -4\n* drawn 1\n* optimal -3\n* drawn 2\n* optimal -5\n* drawn 2\n",
+        ),
+        ("edit", BOUNDED, "end\n", 0, ""),
+        (
+            "edit",
+            BOUNDED,
+            "add L 3 : 1 1 2 1\nsolve\nend\n",
+            0,
+            "* optimal -4\n* drawn 2\n",
+        ),
+        (
+            "edit",
+            BOUNDED,
+            "add E 2 : 1 1\nsolve\nend\n",
+            0,
+            "* optimal -2\n* drawn 2\n",
+        ),
+        (
+            "edit",
+            BOUNDED,
+            "add G 1 :\nsolve\nend\n",
+            0,
+            "* infeasible\n* drawn 1\n",
+        ),
+        (
+            "edit",
+            BOUNDED,
+            "tighten 1 4\nsolve\nend\n",
+            0,
+            "* infeasible\n* drawn 1\n",
+        ),
+        (
+            "edit",
+            BOUNDED,
+            "cost :\nsolve\nend\n",
+            0,
+            "* optimal 0\n* drawn 1\n",
+        ),
+        (
+            "edit",
+            FALLING,
+            "solve\nadd L 5 : 1 1\nsolve\nend\n",
+            0,
+            "* unbounded\n* drawn 2\n* optimal -5\n* drawn 2\n",
+        ),
+        (
+            "edit",
+            SHARED,
+            "solve\ncost : 1 1 2 3\nsolve\nend\n",
+            0,
+            "* optimal 0\n* drawn 3\n* optimal 1\n* drawn 1\n",
+        ),
+        (
+            "--pieces=2 edit --pivots 15",
+            BOUNDED,
+            "solve\nsolve\nend\n",
+            0,
+            "* optimal -4\n* drawn 2\n* optimal -4\n* drawn 1\n",
+        ),
+        (
+            "edit --pieces 1",
+            BOUNDED,
+            "solve\nsolve\nend\n",
+            8,
+            "budget pieces 1 left 1b\n",
+        ),
+        (
+            "edit",
+            WIDE,
+            "solve\nsolve\nend\n",
+            7,
+            "overflow piece - pivots 0 forms x2 c1\n",
+        ),
+        ("edit", "", "end\n", 3, "deck: line 1: UnknownSection\n"),
+    ];
+    for (words, deck, script, status, text) in rows {
+        let found = answer_script(rt.alloc(), words, deck, script)?;
+        assert_eq!(rt;
+            (found.0, found.1.as_str()),
+            (status, text),
+            "{words}: {script}"
+        );
+    }
+    Ok(())
+}
+
+/// A script is judged whole before any edit is made, and a refusal is written alone.
+#[test]
+fn refused_scripts(rt: HostRuntime) -> Result<(), Fail> {
+    let rows = [
+        ("", "script: line 1: NotEnded\n"),
+        ("solve\n", "script: line 2: NotEnded\n"),
+        ("solve\nend", "script: line 2: NotEnded\n"),
+        ("end\nx", "script: line 2: AfterEnd\n"),
+        ("end\n\n", "script: line 2: AfterEnd\n"),
+        ("\nend\n", "script: line 1: BadEdit\n"),
+        ("* x\nend\n", "script: line 1: BadEdit\n"),
+        ("solve \nend\n", "script: line 1: BadEdit\n"),
+        ("solve\r\nend\n", "script: line 1: BadEdit\n"),
+        ("tighten 1\nend\n", "script: line 1: BadEdit\n"),
+        ("add N 1 : 1 1\nend\n", "script: line 1: BadEdit\n"),
+        ("add G 01 : 1 1\nend\n", "script: line 1: BadEdit\n"),
+        ("add G 1 : 1 0\nend\n", "script: line 1: BadEdit\n"),
+        ("add G 1 : 1\nend\n", "script: line 1: BadEdit\n"),
+        (
+            "tighten 9223372036854775808 0\nend\n",
+            "script: line 1: BadEdit\n",
+        ),
+        ("solve\ntighten 4 -3\nx\nend\n", "script: line 3: BadEdit\n"),
+        ("tighten 9 0\nend\n", "script: line 1: NoSuch\n"),
+        ("tighten 0 0\nend\n", "script: line 1: NoSuch\n"),
+        ("tighten -1 0\nend\n", "script: line 1: NoSuch\n"),
+        ("tighten 4294967297 0\nend\n", "script: line 1: NoSuch\n"),
+        ("add G 0 : 3 1\nend\n", "script: line 1: NoSuch\n"),
+        ("add G 0 : 2 1 1 1\nend\n", "script: line 1: NoSuch\n"),
+        ("cost : 1 1 1 1\nend\n", "script: line 1: NoSuch\n"),
+        ("tighten 4 -3\nend\n", "script: line 1: Loosens\n"),
+        ("solve\ntighten 4 -3\nend\n", "script: line 2: Loosens\n"),
+        (
+            "add E 1 : 1 1\ntighten 5 1\nend\n",
+            "script: line 2: Loosens\n",
+        ),
+        (
+            "tighten 4 4503599627370497\nend\n",
+            "script: line 1: Limit\n",
+        ),
+        (
+            "add G 4503599627370497 : 1 1\nend\n",
+            "script: line 1: Limit\n",
+        ),
+        (
+            "cost : 1 4503599627370497\nend\n",
+            "script: line 1: Limit\n",
+        ),
+    ];
+    for (script, text) in rows {
+        let found = answer_script(rt.alloc(), "edit", BOUNDED, script)?;
+        assert_eq!(rt; (found.0, found.1.as_str()), (3, text), "{script}");
+    }
+    Ok(())
+}
+
 /// Each command gives what it is asked for, where `run` is called as the program calls it.
 #[test]
 fn each_command(rt: HostRuntime) -> Result<(), Fail> {
@@ -285,6 +455,11 @@ fn each_command(rt: HostRuntime) -> Result<(), Fail> {
             "NAME gen-7-2-1-1\nROWS\n N cost\n G r1\nCOLUMNS\n x1 cost 6\n x1 r1 9\n x2 cost 6\n x2 r1 5\nRHS\n rhs r1 12\nPAIRS\n p1 COL x1 COL x2\nENDATA\n",
         ),
         ("tree --brief", THIRD, "* optimal 1/3\n* nodes 1\n"),
+        (
+            "edit",
+            "ROWS\n N cost\n G r1\nCOLUMNS\n x cost 1 r1 3\nRHS\n rhs r1 1\nENDATA\nsolve\ntighten 1 2\nsolve\nend\n",
+            "* optimal 1/3\n* drawn 1\n* optimal 2/3\n* drawn 1\n",
+        ),
         ("lcp --solve", LCP, "* solution 1 : 1 2\n"),
         (
             "bilevel",

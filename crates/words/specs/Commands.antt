@@ -5,8 +5,9 @@ use Rattle.clap.specs.Words.{Kinds, Row, Text, all_of, fault_of, first_of, match
 use Rattle.clap.specs.declared.parser.ValueSource.{ValueSource}
 use Rattle.clap.specs.declared.parser.ValueSource.TheVariants.{CommandLine, DefaultValue}
 use Rattle.words.specs.declared.command.Command.{Command}
-use Rattle.words.specs.declared.command.Command.TheVariants.{Bilevel, Check, Generate, Lcp, Migrate, Relax, Solve, Tree}
+use Rattle.words.specs.declared.command.Command.TheVariants.{Bilevel, Check, Edit, Generate, Lcp, Migrate, Relax, Solve, Tree}
 use Rattle.words.specs.declared.command.Draft.{Draft}
+use Rattle.words.specs.declared.command.EditSettings.{EditSettings}
 use Rattle.words.specs.declared.command.Form.{Form}
 use Rattle.words.specs.declared.command.Form.TheVariants.{One, Two}
 use Rattle.words.specs.declared.command.Settings.{Settings}
@@ -62,6 +63,9 @@ is_beyond_check rows = is_beyond_relax rows || stands (codes "pivots") rows
 abbrev pub is_beyond_tree : List Row → Bool
 is_beyond_tree rows = stands (codes "numbers") rows || stands (codes "solve") rows || stands (codes "workers") rows || stands (codes "pieces") rows || stands (codes "shrink") rows || stands (codes "form") rows
 
+abbrev pub is_beyond_edit : List Row → Bool
+is_beyond_edit rows = is_beyond_solve rows || stands (codes "workers") rows || stands (codes "shrink") rows || stands (codes "form") rows || stands (codes "brief") rows
+
 abbrev pub is_beyond_gen : List Row → Bool
 is_beyond_gen rows = stands (codes "workers") rows || stands (codes "pieces") rows || stands (codes "pivots") rows || stands (codes "nodes") rows || stands (codes "shrink") rows || stands (codes "form") rows || stands (codes "brief") rows
 
@@ -75,6 +79,9 @@ settings workers pieces pivots full brief form = record { workers = workers; pie
 
 abbrev pub tree_settings : ℕ → ℕ → Bool → TreeSettings
 tree_settings nodes pivots brief = record { nodes = nodes; pivots = pivots; brief = brief }
+
+abbrev pub edit_settings : ℕ → ℕ → EditSettings
+edit_settings pieces pivots = record { pieces = pieces; pivots = pivots }
 
 abbrev pub draft : Bool → ℕ → ℕ → ℕ → ℕ → Draft
 draft solve seed columns rows pairs = record { seed = seed; columns = columns; rows = rows; pairs = pairs; solve = solve }
@@ -114,6 +121,16 @@ tree_settings_of rows =
 abbrev pub tree_of : List Row → Option Command
 tree_of rows = if is_beyond_tree rows then None else option_map Tree (tree_settings_of rows)
 
+abbrev pub edit_settings_of : List Row → Option EditSettings
+edit_settings_of rows =
+    option_and_then (λ pieces.
+    option_map (λ pivots. edit_settings pieces pivots)
+    (number_or USUAL_PIVOTS MOST (first_of (codes "pivots") rows)))
+    (number_or USUAL_PIECES MOST (first_of (codes "pieces") rows))
+
+abbrev pub edit_of : List Row → Option Command
+edit_of rows = if is_beyond_edit rows then None else option_map Edit (edit_settings_of rows)
+
 abbrev pub draft_of : Bool → List Text → Option Draft
 draft_of solve (s ∷ c ∷ r ∷ p ∷ []) =
     option_and_then (λ seed.
@@ -147,6 +164,7 @@ command_named w rows =
     else if bytes_eq w (codes "gen") then gen_of rows
     else if bytes_eq w (codes "solve") then solve_of rows
     else if bytes_eq w (codes "tree") then tree_of rows
+    else if bytes_eq w (codes "edit") then edit_of rows
     else if bytes_eq w (codes "lcp") then lcp_of rows
     else if bytes_eq w (codes "bilevel") then bilevel_of rows
     else None

@@ -1,7 +1,7 @@
 //! The commands.
 ghost use Rattle.std.specs.Prelude.{◌≡◌, ◌≤◌, map, option_map};
 ghost use Rattle.clap.specs.Words.{first_of, found_of, rows_of};
-ghost use Rattle.words.specs.Commands.{bilevel_of, check_of, command_in, command_named, draft_of, form_of, gen_of, is_beyond_check, is_beyond_front, is_beyond_gen, is_beyond_relax, is_beyond_solve, is_beyond_tree, is_full, is_of_words, lcp_of, migrate_of, number_or, numbers_of, relax_of, settings_of, solve_of, source_of, stands, tree_of, tree_settings_of};
+ghost use Rattle.words.specs.Commands.{bilevel_of, check_of, command_in, command_named, draft_of, edit_of, edit_settings_of, form_of, gen_of, is_beyond_check, is_beyond_edit, is_beyond_front, is_beyond_gen, is_beyond_relax, is_beyond_solve, is_beyond_tree, is_full, is_of_words, lcp_of, migrate_of, number_or, numbers_of, relax_of, settings_of, solve_of, source_of, stands, tree_of, tree_settings_of};
 
 use crate::numbers::{MOST, number_in};
 use clap::ArgMatches;
@@ -54,6 +54,15 @@ pub struct TreeSettings {
     pub brief: bool,
 }
 
+/// What is asked of `edit`.
+#[derive(Clone, Copy)]
+pub struct EditSettings {
+    /// How many pieces may be drawn for an answer.
+    pub pieces: u64,
+    /// How many pivots a stage of a walk may make.
+    pub pivots: u64,
+}
+
 /// What is asked of `gen`: the numbers of the deck, and whether it is to be solved. Whether there is
 /// such a deck is not decided here.
 #[derive(Clone, Copy)]
@@ -78,6 +87,8 @@ pub enum Command {
     Solve(Settings),
     /// Solve a deck by a search by branching.
     Tree(TreeSettings),
+    /// Edit a deck by a script, and solve it on the way.
+    Edit(EditSettings),
     /// Make a deck.
     Generate(Draft),
     /// Print the deck of a linear complementarity problem, or solve it.
@@ -189,6 +200,16 @@ fn is_beyond_tree(matches: &ArgMatches) -> bool
         || stands(matches, "form")
 }
 
+fn is_beyond_edit(matches: &ArgMatches) -> bool
+    ensures { result ≡ is_beyond_edit (rows_of (found_of matches.now)) }
+{
+    is_beyond_solve(matches)
+        || stands(matches, "workers")
+        || stands(matches, "shrink")
+        || stands(matches, "form")
+        || stands(matches, "brief")
+}
+
 fn is_beyond_gen(matches: &ArgMatches) -> bool
     ensures { result ≡ is_beyond_gen (rows_of (found_of matches.now)) }
 {
@@ -285,6 +306,23 @@ fn tree_of(matches: &ArgMatches) -> Option<Command>
     Some(Command::Tree(tree_settings_of(matches)?))
 }
 
+fn edit_settings_of(matches: &ArgMatches) -> Option<EditSettings>
+    ensures { result ≡ edit_settings_of (rows_of (found_of matches.now)) }
+{
+    let pieces = number_or(USUAL_PIECES, MOST, text_of(matches, "pieces"))?;
+    let pivots = number_or(USUAL_PIVOTS, MOST, text_of(matches, "pivots"))?;
+    Some(EditSettings { pieces, pivots })
+}
+
+fn edit_of(matches: &ArgMatches) -> Option<Command>
+    ensures { result ≡ edit_of (rows_of (found_of matches.now)) }
+{
+    if is_beyond_edit(matches) {
+        return None;
+    }
+    Some(Command::Edit(edit_settings_of(matches)?))
+}
+
 fn draft_of(solve: bool, numbers: &[&str]) -> Option<Draft>
     ensures { result ≡ draft_of solve (map (λ s. s.now) numbers.now) }
 {
@@ -360,6 +398,8 @@ fn command_named(name: &str, matches: &ArgMatches) -> Option<Command>
         solve_of(matches)
     } else if name == "tree" {
         tree_of(matches)
+    } else if name == "edit" {
+        edit_of(matches)
     } else if name == "lcp" {
         lcp_of(matches)
     } else if name == "bilevel" {

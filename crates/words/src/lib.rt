@@ -7,8 +7,8 @@ mod rules;
 mod taking;
 
 pub use command::{
-    Command, Draft, Form, MOST_WORKERS, Settings, TreeSettings, USUAL_NODES, USUAL_PIECES,
-    USUAL_PIVOTS,
+    Command, Draft, EditSettings, Form, MOST_WORKERS, Settings, TreeSettings, USUAL_NODES,
+    USUAL_PIECES, USUAL_PIVOTS,
 };
 pub use numbers::MOST;
 pub use taking::command_of;

@@ -1,4 +1,4 @@
-use Rattle.words.specs.declared.command.Command.TheVariants.{Bilevel, Check, Generate, Lcp, Migrate, Relax, Solve, Tree}
+use Rattle.words.specs.declared.command.Command.TheVariants.{Bilevel, Check, Edit, Generate, Lcp, Migrate, Relax, Solve, Tree}
 use Rattle.lpcc_run.specs.Commands.{by_one_worker}
 use Rattle.lpcc_run.proofs.Statuses.{at_command}
 use Rattle.lpcc_run.proofs.dispatch.run_command.Goals as goal
@@ -17,6 +17,9 @@ returns-in-Solve-clause-answered g c = at_command by_one_worker c.args.command (
 
 pub returns-in-Tree-clause-answered : goal.returns-in-Tree-clause-answered
 returns-in-Tree-clause-answered g c = at_command by_one_worker c.args.command (Tree c.in-Tree.settings) _ _ _ _ _ _ _ _ c.in-Tree.is c.run_branching.ensures
+
+pub returns-in-Edit-clause-answered : goal.returns-in-Edit-clause-answered
+returns-in-Edit-clause-answered g c = at_command by_one_worker c.args.command (Edit c.in-Edit.settings) _ _ _ _ _ _ _ _ c.in-Edit.is c.run_session.ensures
 
 pub returns-in-Generate-clause-answered : goal.returns-in-Generate-clause-answered
 returns-in-Generate-clause-answered g c =
