@@ -1,5 +1,7 @@
-//! Tests of edit sessions.
+//! Tests of edit sessions, and of scripts of edits.
 #![tactic(auto)]
 
+#[cfg(test)]
+mod script_tests;
 #[cfg(test)]
 mod session_tests;
